@@ -1,5 +1,6 @@
 -- What a step can come to, in two states at once that a compartment can't distinguish: the same registers and pc, the
--- same bytes at its addresses, and the same blocks in its zone. A relation between the outcomes holds if it holds of each kind of outcome.
+-- same bytes at its addresses, and the same blocks in its zone. A relation between the outcomes holds if it holds of
+-- each kind of outcome.
 use Rattle.sc_image.proofs.Common.{Auipc, BadCall, BadFree, BadJump, Bool, Branch, Breakpoint, Crossing, Ebreak, Ecall}
 use Rattle.sc_image.proofs.Common.{Export, Fence, Goes, HasWord, HoldsBytes, Illegal, ImageParts, Instr, IsWellFormed}
 use Rattle.sc_image.proofs.Common.{IsWord, Jal, Jalr, List, Load, LoadOp, Lui, MachineState, Misaligned, NoImport, None}

@@ -42,7 +42,8 @@ pub use Rattle.sc_word.specs.Prelude.{add_word, word_of}
 pub use Rattle.rv_code.specs.Prelude.{HasWord, decoded}
 pub use Rattle.sc_store.proofs.Words.{load_of-same, stored-apart}
 pub use Rattle.sc_store.specs.Prelude.{HoldsBytes, ByteMemory, byte_of, is_in, load_of, with_bytes}
-pub use Rattle.sc_image.specs.Common.{Auipc, BadCall, BadFree, BadJump, Branch, Breakpoint, Call, Ebreak, Ecall, End, Ended}
+pub use Rattle.sc_image.specs.Common.{Auipc, BadCall, BadFree, BadJump, Branch, Breakpoint, Call, Ebreak, Ecall, End}
+pub use Rattle.sc_image.specs.Common.{Ended}
 pub use Rattle.sc_image.specs.Common.{Entry, Event, EventsOut, Export, Fence, Illegal, In, Instr, Jal, Jalr, Load}
 pub use Rattle.sc_image.specs.Common.{LoadOp, Lui, Main, Misaligned, NoImport, Op, OpImm, OpOp, Out, Owner, Region, Ret}
 pub use Rattle.sc_image.specs.Common.{Shift, ShiftOp, StepsOut, Stop, Store, StoreOp, Trap, TrapReason, Upper}

@@ -60,7 +60,8 @@ module _ (image : ImageParts) (inputs : List ℕ) (state : MachineState) (d : �
 
   -- the own parts of d after a step to a state in which they are the same
   own_kept : (next : MachineState) → next.active ≢ d → data_of image d next.memory ≡ data_of image d state.memory →
-      zone_of next d ≡ zone_of state d → saved_sp next d ≡ saved_sp state d → flat_map (kept_by d) next.cross ≡ flat_map (kept_by d) state.cross →
+      zone_of next d ≡ zone_of state d → saved_sp next d ≡ saved_sp state d →
+      flat_map (kept_by d) next.cross ≡ flat_map (kept_by d) state.cross →
       own image next d ≡ own image state d
   own_kept next other bytes zone saved calls = λ i. record {
     bytes = bytes i;

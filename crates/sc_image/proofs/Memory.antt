@@ -97,14 +97,14 @@ zone_owned image c formed = one_is image c (zone_start c) ∙ owns_is image c (z
     (omega (arith, few_globals image c formed)) (omega arith)
 
 -- an access that isn't refused is of the compartment's bytes
-data_by : (aligned owned : Bool) → (if not aligned then Some Misaligned else if not owned then Some Owner else None) ≡
+owned_by : (aligned owned : Bool) → (if not aligned then Some Misaligned else if not owned then Some Owner else None) ≡
     None → owned ≡ true
-data_by true true h = refl
-data_by true false h = cc h
-data_by false owned h = cc h
+owned_by true true h = refl
+owned_by true false h = cc h
+owned_by false owned h = cc h
 
 pub allowed_data : (image : ImageParts) (c size a : ℕ) → refused image c size a ≡ None → are_data image c a size ≡ true
-allowed_data image c size a h = data_by _ _ h
+allowed_data image c size a h = owned_by _ _ h
 
 -- The memory of the start, by the offset of an address in its stretch of data.
 
@@ -117,11 +117,13 @@ zone_byte heap offset =
     if heap && (nat_le zone_offset offset && nat_lt offset (zone_offset + zone_size)) then Some 0 else None
 
 -- the byte of a compartment's data at an offset: a stack of zeros, the globals, and higher up a zone of zeros
-abbrev pub data_byte : ℕ → CompPart → Option ℕ
-data_byte offset comp =
-    if nat_lt offset stack_size then Some 0
-    else if nat_lt offset (stack_size + length comp.globals) then slice_get comp.globals (offset - stack_size)
+abbrev pub byte_above : ℕ → CompPart → Option ℕ
+byte_above offset comp =
+    if nat_lt offset (stack_size + length comp.globals) then slice_get comp.globals (offset - stack_size)
     else zone_byte comp.heap offset
+
+abbrev pub data_byte : ℕ → CompPart → Option ℕ
+data_byte offset comp = if nat_lt offset stack_size then Some 0 else byte_above offset comp
 
 abbrev pub byte_by_offset : ImageParts → ByteMemory
 byte_by_offset image address = if nat_lt address (data_start 0) then None else option_and_then
@@ -130,6 +132,12 @@ byte_by_offset image address = if nat_lt address (data_start 0) then None else o
 abbrev zone_part : (c : ℕ) → (heap : Bool) → List Filled
 zone_part c heap =
     if heap then record { region = record { start = zone_start c; bytes = zone_size }; bytes = [] } ∷ [] else []
+
+-- what lies above the stack
+abbrev above_part : (c : ℕ) → CompPart → List Filled
+above_part c comp =
+    record { region = record { start = stack_top c; bytes = length comp.globals }; bytes = comp.globals } ∷
+    zone_part c comp.heap
 
 module _ (c a : ℕ) where
   before_zone : (heap : Bool) → a < data_start c → byte_at (zone_part c heap) a ≡ None
@@ -169,30 +177,21 @@ module _ (c a : ℕ) where
         rw place (sym (slice_get-get_or globals _ 0 (omega (arith, top, below))))
     global_by globals false other top is = refl
 
-    above_stack : (globals : List ℕ) (heap : Bool) (other : Option ℕ) → stack_top c ≤ a →
-        byte_at (zone_part c heap) a ≡ other →
-        (if nat_le (stack_top c) a && nat_lt a (stack_top c + length globals)
-        then Some (slice_index globals (a - stack_top c)) else byte_at (zone_part c heap) a) ≡
-        (if nat_lt (a - data_start c) (stack_size + length globals)
-        then slice_get globals (a - data_start c - stack_size) else other)
-    above_stack globals heap other top zone =
-        ap₂ (λ inside byte. if inside then Some (slice_index globals (a - stack_top c)) else byte)
-        (in_globals (length globals) top) zone ∙ global_by globals _ other top refl
+    above_is : (comp : CompPart) → stack_top c ≤ a →
+        byte_at (above_part c comp) a ≡ byte_above (a - data_start c) comp
+    above_is comp top =
+        ap₂ (λ inside byte. if inside then Some (slice_index comp.globals (a - stack_top c)) else byte)
+        (in_globals (length comp.globals) top) (zone_is comp.heap) ∙ global_by comp.globals _ _ top refl
 
-    data_by_stack : (comp : CompPart) (inside : Bool) → nat_lt (a - data_start c) stack_size ≡ inside →
-        (if inside then Some 0 else if nat_le (stack_top c) a && nat_lt a (stack_top c + length comp.globals)
-        then Some (slice_index comp.globals (a - stack_top c)) else byte_at (zone_part c comp.heap) a) ≡
-        (if inside then Some 0 else if nat_lt (a - data_start c) (stack_size + length comp.globals)
-        then slice_get comp.globals (a - data_start c - stack_size) else zone_byte comp.heap (a - data_start c))
-    data_by_stack comp true is = refl
-    data_by_stack comp false is =
-        above_stack comp.globals comp.heap _ (grind (arith, nat_tests)) (zone_is comp.heap)
+    data_by : (comp : CompPart) (inside : Bool) → nat_lt (a - data_start c) stack_size ≡ inside →
+        (if inside then Some 0 else byte_at (above_part c comp) a) ≡
+        (if inside then Some 0 else byte_above (a - data_start c) comp)
+    data_by comp true is = refl
+    data_by comp false is = above_is comp (grind (arith, nat_tests))
 
     data_is : (comp : CompPart) → byte_at (data_with c comp.globals comp.heap) a ≡ data_byte (a - data_start c) comp
     data_is comp =
-        ap (λ inside. if inside then Some 0 else if nat_le (stack_top c) a && nat_lt a (stack_top c + length comp.globals)
-        then Some (slice_index comp.globals (a - stack_top c)) else byte_at (zone_part c comp.heap) a) in_stack ∙
-        data_by_stack comp _ refl
+        ap (λ inside. if inside then Some 0 else byte_at (above_part c comp) a) in_stack ∙ data_by comp _ refl
 
 module _ (a : ℕ) where
   low_by : (c : ℕ) (found : Option CompPart) → a < data_start 0 →
@@ -259,7 +258,8 @@ module _ (image : ImageParts) (formed : IsWellFormed image) (a b : ℕ) where
   byte_in_zone true is = zero_byte is
   byte_in_zone false is = let never = is in cc never
 
-  byte_by : (c : ℕ) (comp : CompPart) → slice_get image.comps c ≡ Some comp → (offset : ℕ) (in_stack in_globals : Bool) →
+  byte_by : (c : ℕ) (comp : CompPart) → slice_get image.comps c ≡ Some comp →
+      (offset : ℕ) (in_stack in_globals : Bool) →
       (if in_stack then Some 0 else if in_globals then slice_get comp.globals (offset - stack_size)
       else zone_byte comp.heap offset) ≡ Some b → b < 256
   byte_by c comp is offset true in_globals at = zero_byte at

@@ -1,8 +1,8 @@
 -- Where things lie in memory. A compartment has a stretch of addresses for its code and one for its data, both found by
 -- its number.
 use Rattle.sc_image.specs.Common.{Region, is_in}
-use Rattle.std.specs.Prelude.{ℕ, zero, suc, ◌+◌, ◌-◌, ◌*◌, ◌/◌, ◌%◌, Bool, true, false, ◌&&◌, nat_le, nat_eq, List, [], ◌∷◌}
-use Rattle.std.specs.Prelude.{length, map, slice_get, Option, None, if◌then◌else◌}
+use Rattle.std.specs.Prelude.{ℕ, zero, suc, ◌+◌, ◌-◌, ◌*◌, ◌/◌, ◌%◌, Bool, true, false, ◌&&◌, nat_le, nat_eq, List, []}
+use Rattle.std.specs.Prelude.{◌∷◌, length, map, slice_get, Option, None, if◌then◌else◌}
 use Rattle.std.specs.List.{list_any}
 use Rattle.std.specs.Option.{option_map_or}
 use Rattle.sc_zone.specs.Prelude.{zone_words}
@@ -75,7 +75,8 @@ pub record Filled : Type 0 where
   pub region : Region
   pub bytes : List ℕ
 
--- the data of compartment c with these globals: its stack and its zone, if it has one, which hold zeros, and its globals
+-- the data of compartment c with these globals: its stack and its zone, if it has one, which hold zeros, and its
+-- globals
 abbrev pub data_with : (c : ℕ) → (globals : List ℕ) → (heap : Bool) → List Filled
 data_with c globals heap =
     record { region = record { start = data_start c; bytes = stack_size }; bytes = [] } ∷

@@ -1,8 +1,8 @@
 -- The machine's state, and the state that a run starts in.
 pub use Rattle.rv_code.specs.Registers.{a0, a1, a7, ra, sp}
 use Rattle.sc_image.specs.Common.{Entry, Event, ByteMemory, is_in}
-use Rattle.std.specs.Prelude.{ℕ, suc, ◌-◌, nat_eq, List, [], ◌∷◌, ◌++◌, map, replicate, slice_get, slice_index, slice_set}
-use Rattle.std.specs.Prelude.{slice_index_or, Some, None, if◌then◌else◌}
+use Rattle.std.specs.Prelude.{ℕ, suc, ◌-◌, nat_eq, List, [], ◌∷◌, ◌++◌, map, replicate, slice_get, slice_index}
+use Rattle.std.specs.Prelude.{slice_set, slice_index_or, Some, None, if◌then◌else◌}
 use Rattle.std.specs.Option.{option_and_then}
 use Rattle.sc_zone.specs.declared.span.Span.{Span}
 use Rattle.sc_image.specs.declared.parts.ImageParts.{ImageParts}

@@ -1,5 +1,6 @@
 -- What one instruction does (RISC-V Unprivileged ISA, RV32I and M), and when it traps.
-use Rattle.sc_image.specs.Common.{Auipc, BadCall, BadFree, BadJump, Branch, BranchOp, Breakpoint, Ebreak, Ecall, Fence, Illegal}
+use Rattle.sc_image.specs.Common.{Auipc, BadCall, BadFree, BadJump, Branch, BranchOp, Breakpoint, Ebreak, Ecall, Fence}
+use Rattle.sc_image.specs.Common.{Illegal}
 use Rattle.sc_image.specs.Common.{Instr, Jal, Jalr, Load, LoadOp, Lui, Misaligned, NoImport, Op, OpImm, OpImmOp, OpOp}
 use Rattle.sc_image.specs.Common.{Owner, Shift, ShiftOp, Store, StoreOp, TrapReason, Upper, add_word, decoded, div_word}
 use Rattle.sc_image.specs.Common.{divu_word, load_of, mul_word, mulh_word, mulhsu_word, mulhu_word, rem_word, remu_word}
