@@ -221,7 +221,8 @@ module _ (comps : ℕ) (few : comps ≤ 32) where
   pub comp_field : (version : ℕ) → IsField (read_comp version comps) comp_bytes (FitsComp version comps)
   unfolding read_comp
   comp_field version = restated (followed comp_name_field (λ (comp : CompPart). comp.name) (λ name ok.
-      followed (tested (byte_field Compartment) Compartment (λ f. nat_le f (most_flags version))) (λ (comp : CompPart). flags comp)
+      followed (tested (byte_field Compartment) Compartment (λ f. nat_le f (most_flags version)))
+      (λ (comp : CompPart). flags comp)
       (λ f ok. followed exports_field (λ (comp : CompPart). comp.exports) (λ exports ok.
       followed imports_field (λ (comp : CompPart). comp.imports) (λ imports ok.
       followed code_field (λ (comp : CompPart). comp.code) (λ code ok.

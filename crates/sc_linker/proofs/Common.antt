@@ -2,7 +2,7 @@
 pub use Rattle.std.proofs.Common.{All, AllPairs, Bool, IfSome, IsSome, IsSomeAnd, IsTrue, List, None, Option, Some, []}
 pub use Rattle.std.proofs.Common.{add-one, ap, append-nil, append_assoc, ap₂, arith, bytes_eq, codes, cond, drop}
 pub use Rattle.std.proofs.Common.{eq-eqb, eqb-true, false, flat_map, get_or, if◌then◌else◌, inl, inr}
-pub use Rattle.std.proofs.Common.{is_some, le-leb, le-ltb, leb-true, length, length-append, length-drop, length-take}
+pub use Rattle.std.proofs.Common.{is_some, le-leb, leb-true, length, length-append, length-drop, length-take}
 pub use Rattle.std.proofs.Common.{length-take-le, lit<, ltb-false, ltb-true, map, nat_eq, nat_le, nat_lt, ne_eqb}
 pub use Rattle.std.proofs.Common.{negsuc, not, option_and_then, option_map, pos, position, refl, replicate, rules}
 pub use Rattle.std.proofs.Common.{slice_get, slice_index, slice_index_or, subst, suc, sym, take, take-append-drop}
@@ -43,11 +43,11 @@ pub use Rattle.sc_core.specs.declared.ty.Ty.{Ty}
 pub use Rattle.sc_core_kind_laws.proofs.Sections.{all_at, any_along, first_of, found_passes, main_so, sections_so}
 pub use Rattle.rv_code.proofs.OneEach.{HasWord-own, decoded-word_of, word-below}
 pub use Rattle.rv_code.specs.Prelude.{IsImmediate, IsInstr, IsJumpOffset, IsUpper, word_of}
-pub use Rattle.sc_store.specs.Prelude.{byte_of, load_of}
+pub use Rattle.sc_store.specs.Prelude.{load_of}
 pub use Rattle.sc_image.specs.Prelude.{IsByte, IsComp, IsDistinct, IsEntry, IsExport, IsImport, IsWellFormed, IsWord}
-pub use Rattle.sc_image.specs.Prelude.{code_in, code_start, comp_of_data, data_start, exported_by, has_result}
+pub use Rattle.sc_image.specs.Prelude.{code_in, code_start, exported_by, has_result}
 pub use Rattle.sc_image.specs.Prelude.{may_call_export}
-pub use Rattle.sc_image.specs.Prelude.{may_input, may_output, most_globals, export_params, stack_size, stack_top}
+pub use Rattle.sc_image.specs.Prelude.{may_input, may_output, most_globals, export_params, stack_top}
 pub use Rattle.sc_image.specs.Prelude.{start_memory, stretch}
 unfoldable pub use Rattle.sc_image.specs.Prelude.{word_at}
 pub use Rattle.sc_image.specs.declared.parts.CompPart.{CompPart}

@@ -228,7 +228,7 @@ module _ (program : ProgramTree) (codes : List CodeTree) (typed : IsWellTyped pr
           let fits = has_block comp number cs is in
           let S : TypedSection = section_at program comp in
           let at_place : (addresses_at program codes comp).global number + 4 * i
-              ≡ stack_top comp + 4 * (cells S.structs (take number S.globals) + i) =
+          ≡ stack_top comp + 4 * (cells S.structs (take number S.globals) + i) =
           omega arith in
           ap (λ a. load_of (start_memory (linked_image program codes)) a 4) at_place
           ∙ words_placed (linked_image program codes) comp _ (global_words S)
