@@ -55,6 +55,7 @@ impl<S: Store> Model for Machine<S> {
       pc = m.hart.core.pc;
       active = m.hart.active;
       saved = m.hart.saved.items;
+      zones = m.hart.zones.blocks;
       cross = m.hart.cross.calls;
       input = m.hart.input;
       trace = m.hart.trace.items;
