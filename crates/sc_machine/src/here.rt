@@ -34,8 +34,7 @@ pub(crate) struct Here<'a> {
 }
 
 impl<'a> Model for Here<'a> {
-    ghost use Rattle.std.specs.Prelude.{◌≡◌, All};
-    ghost use Rattle.sc_image.specs.Layout.{has_heap};
+    ghost use Rattle.std.specs.Prelude.{All};
     ghost use Rattle.sc_machine.specs.Place.{Site, IsPlace, IsLookedUp};
     ghost use Rattle.sc_machine.specs.Passing.{IsCallee};
 
@@ -44,8 +43,8 @@ impl<'a> Model for Here<'a> {
     ghost view = { λ h. record { image = h.program.now; comp = h.comp } };
 
     ghost invariant = { λ h. IsPlace h.program.now h.comp ×
-        IsLookedUp h.program.now h.comp h.code.now h.code_from h.data_from h.data_bytes ×
-        (h.has_zone ≡ has_heap h.program.now h.comp) ×
+        IsLookedUp h.program.now h.comp h.code.now h.code_from h.data_from h.data_bytes
+        h.has_zone ×
         All (IsCallee h.program.now h.comp) h.callees.now };
 }
 
@@ -135,7 +134,6 @@ impl<'a> Here<'a> {
     }
 
     /// Whether the `size` bytes from an address on all lie in the compartment's stack, globals and zone.
-    #[tactic(auto, using(crate::proofs::Words::looked_data, crate::proofs::Words::looked_there))]
     pub fn are_data(&self, address: u32, size: u32) -> bool
         requires some { 0 < size }
         requires few { size ≤ 4 }
@@ -149,15 +147,21 @@ impl<'a> Here<'a> {
         if offset <= self.data_bytes - size {
             return true;
         }
-        self.has_zone && self.reach_zone(offset, size)
+        if !self.has_zone {
+            return false;
+        }
+        self.are_in_zone(offset, size)
     }
 
-    /// Whether the `size` bytes from an offset in the compartment's data on all lie in its zone, or in its globals and
-    /// its zone where the globals end where the zone begins.
+    /// Whether the `size` bytes at an offset in the compartment's data, which reach beyond its globals, all lie in its
+    /// zone, or in its globals and its zone where there is nothing between them.
     #[inline(never)]
-    fn reach_zone(&self, offset: u32, size: u32) -> bool
+    fn are_in_zone(&self, offset: u32, size: u32) -> bool
         requires some { 0 < size }
         requires few { size ≤ 4 }
+        requires heap { IsTrue (has_heap self.now.image self.now.comp) }
+        requires beyond { stack_size + length (initial_globals self.now.image self.now.comp) < offset + size }
+        ensures { result ≡ are_data self.now.image self.now.comp (data_start self.now.comp + offset) size }
     {
         if offset < ZONE && self.data_bytes < ZONE {
             return false;

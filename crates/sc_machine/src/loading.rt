@@ -12,8 +12,8 @@ ghost use Rattle.sc_machine.specs.Regions.{HasFewGlobals, all_data, regions_of, 
 use crate::hart::{Core, Hart};
 use crate::zones::Zones;
 use sc_base::OutOfMemory;
-use sc_gate::CrossStack;
 use sc_event::CompId;
+use sc_gate::CrossStack;
 use sc_image::layout::{
     GATE, RA, SP, STACK_SIZE, ZONE_SIZE, comp_id, data_start, stack_top, zone_start,
 };
@@ -28,6 +28,7 @@ pub(crate) fn start(alloc: Global, image: &Image, events: u32) -> Result<Hart, O
     ensures room { IfOk result (HasRoom events) }
 {
     let parts = image.parts();
+    let comps = parts.comps.as_slice();
     let Ok(cross) = CrossStack::with_room(alloc, events) else {
         return Err(OutOfMemory);
     };
@@ -40,8 +41,8 @@ pub(crate) fn start(alloc: Global, image: &Image, events: u32) -> Result<Hart, O
             pc: parts.entry,
         },
         active: parts.main,
-        saved: stack_tops(alloc, parts.comps.as_slice())?,
-        zones: Zones::new(alloc, parts.comps.as_slice())?,
+        saved: stack_tops(alloc, comps)?,
+        zones: Zones::new(alloc, comps)?,
         cross,
         input: 0,
         trace: Vec::with_capacity(alloc, events as usize)?,

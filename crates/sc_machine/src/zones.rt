@@ -53,10 +53,10 @@ impl Zones {
             (taken words result (slice_index_or self.old.blocks comp [])) }
         ensures there { self.new.there ≡ self.old.there }
     {
-        match &mut self.each[comp.number() as usize] {
-            Some(zone) => zone.alloc(words),
-            None => None,
-        }
+        let Some(zone) = &mut self.each[comp.number() as usize] else {
+            return None;
+        };
+        zone.alloc(words)
     }
 
     /// Gives back the block that starts at a place of a compartment's zone; whether there is one.
@@ -68,10 +68,10 @@ impl Zones {
         ensures there { self.new.there ≡ self.old.there }
         ensures stays { result ≡ false → self.new ≡ self.old }
     {
-        match &mut self.each[comp.number() as usize] {
-            Some(zone) => zone.free(place),
-            None => false,
-        }
+        let Some(zone) = &mut self.each[comp.number() as usize] else {
+            return false;
+        };
+        zone.free(place)
     }
 }
 
