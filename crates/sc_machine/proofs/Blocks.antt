@@ -3,6 +3,12 @@ use Rattle.sc_machine.proofs.Common.{Bool, IsTrue, List, None, Option, Some, [],
 use Rattle.sc_machine.proofs.Common.{arith, get_or-map, get_or_past, is_some, length, length-map, map, refl}
 use Rattle.sc_machine.proofs.Common.{slice_index_or, slice_set, subst, sym, true, unwrap_or, ℕ, ⊎_elim, ◌==◌, ◌+◌, ◌<◌}
 use Rattle.sc_machine.proofs.Common.{◌∙◌, ◌∷◌, ◌≡◌, ◌≤◌}
+use Rattle.sc_machine.proofs.Common.{CompPart, ImageParts, MachineState, Traps, has_heap, ne_eqb, slice_get, suc, zero}
+use Rattle.sc_machine.proofs.Common.{zone_start, ◌*◌, ◌-◌, ◌/◌, ◌≢◌}
+use Rattle.sc_base.specs.declared.stop.TrapReason.TheVariants.{BadFree}
+use Rattle.sc_image.specs.Prelude.{frees, next, starts_block, with_zone, zone_of}
+use Rattle.std.proofs.lemmas.Bool.Decides.{nat_tests}
+use Rattle.std.specs.Option.{option_map_or}
 use Rattle.std.proofs.Common.{IfSome, if◌then◌else◌, ◌||◌}
 use Rattle.std.proofs.lemmas.List.{map-set}
 use Rattle.std.proofs.Math.Seq.{map-set_same}
@@ -78,3 +84,59 @@ none_given (span ∷ spans) place none = by (span.place == place) none (none_giv
       (if here then spans else span ∷ without_span place spans) ≡ span ∷ spans
   by true h rest = absurd (false≢true (sym h))
   by false h rest = ap (λ others. span ∷ others) (rest h)
+
+-- a compartment with a heap has a zone
+heap_at : (comps : List CompPart) (c : ℕ) →
+    slice_index_or (map (λ (comp : CompPart). comp.heap) comps) c false ≡
+    option_map_or (λ (comp : CompPart). comp.heap) (slice_get comps c) false
+heap_at [] c = refl
+heap_at (comp ∷ comps) zero = refl
+heap_at (comp ∷ comps) (suc c) = heap_at comps c
+
+pub zone_there : (image : ImageParts) (c k : ℕ) (there : List Bool) →
+    there ≡ map (λ (comp : CompPart). comp.heap) image.comps → k ≡ c → IsTrue (has_heap image c) →
+    IsTrue (slice_index_or there k false)
+zone_there image c k there are at has = ap₂ (λ (tests : List Bool) (n : ℕ). slice_index_or tests n false) are at ∙
+    heap_at image.comps c ∙ has
+
+-- The block at an address.
+
+same_place : (from p q : ℕ) → (from + 4 * p == from + 4 * q) ≡ (p == q)
+same_place from p q = grind (arith, nat_tests)
+
+starts_there : (c place : ℕ) (spans : List Span) → starts_block c spans (zone_start c + 4 * place) ≡ starts_at spans place
+starts_there c place [] = refl
+starts_there c place (span ∷ spans) =
+    ap₂ (λ (x y : Bool). x || y) (same_place (zone_start c) span.place place) (starts_there c place spans)
+
+starts_nowhere : (c address : ℕ) (spans : List Span) → ((place : ℕ) → zone_start c + 4 * place ≢ address) →
+    starts_block c spans address ≡ false
+starts_nowhere c address [] none = refl
+starts_nowhere c address (span ∷ spans) none =
+    ap₂ (λ (x y : Bool). x || y) (ne_eqb _ _ (none span.place)) (starts_nowhere c address spans none)
+
+-- what a free does: no block can start at the address, none does, or one does
+module _ (state : MachineState) (c address : ℕ) (active : c ≡ state.active) (some : address ≢ 0) where
+  pub free_outside : ((place : ℕ) → zone_start c + 4 * place ≢ address) → Traps BadFree ≡ frees state address
+  free_outside none =
+      let nowhere : starts_block state.active (zone_of state state.active) address ≡ false =
+      starts_nowhere state.active address (zone_of state state.active)
+      (subst (λ n. (place : ℕ) → zone_start n + 4 * place ≢ address) active none) in
+      rw (ne_eqb address 0 some, nowhere) refl
+
+  module _ (place : ℕ) (at : zone_start c + 4 * place ≡ address) where
+    starts : starts_block state.active (zone_of state state.active) address ≡
+        starts_at (slice_index_or state.zones c []) place
+    starts = subst (λ n. starts_block state.active (zone_of state state.active) n ≡
+        starts_at (slice_index_or state.zones c []) place) at
+        (subst (λ n. starts_block n (zone_of state n) (zone_start c + 4 * place) ≡
+        starts_at (slice_index_or state.zones c []) place) active (starts_there c place (zone_of state c)))
+
+    pub free_amiss : false ≡ starts_at (slice_index_or state.zones c []) place → Traps BadFree ≡ frees state address
+    free_amiss none = rw (ne_eqb address 0 some, starts, sym none) refl
+
+    pub free_block : true ≡ starts_at (slice_index_or state.zones c []) place →
+        next (with_zone state (without_span place (slice_index_or state.zones c []))) ≡ frees state address
+    free_block there =
+        let number : (address - zone_start state.active) / 4 ≡ place = omega (arith, at, active) in
+        rw (ne_eqb address 0 some, starts, sym there, number, sym active) refl

@@ -215,20 +215,15 @@ near_ranges low past zone end a size h k = grind (arith, nat_tests)
 far_range : (low past a size : ℕ) → past < a + size → in_range low past a size ≡ false
 far_range low past a size h = grind (arith, nat_tests)
 
-far_ranges : (low past zone end a size : ℕ) (hole : Bool) → low ≤ a → past < a + size →
-    hole ≡ (nat_lt a zone && nat_lt past zone) →
-    (if hole then false else nat_le (a + size) end) ≡ in_ranges low past zone end a size
-far_ranges low past zone end a size hole h k is = grind (arith, nat_tests)
+-- beyond the globals, by where the data begin and where the zone does
+into_zone : (low bytes past end offset size : ℕ) → past ≡ low + bytes → end ≡ low + 0xC0000 → offset < 0x80000 →
+    size ≤ 4 → bytes < offset + size → nat_le 0x80000 bytes ≡ in_ranges low past (low + 0x80000) end (low + offset) size
+into_zone low bytes past end offset size is ends below few beyond = grind (arith, nat_tests)
 
-le_moved : (low offset size end : ℕ) → nat_le (low + offset + size) (low + end) ≡ nat_le (offset + size) end
-le_moved low offset size end = grind (arith, nat_tests)
-
-lt_moved : (low a b : ℕ) → nat_lt (low + a) (low + b) ≡ nat_lt a b
-lt_moved low a b = grind (arith, nat_tests)
-
-positive : (P : ℕ → Type 0) (size : ℕ) → 0 < size → ((k : ℕ) → P (suc k)) → P size
-positive P zero some p = absurd (omega (arith, some))
-positive P (suc k) some p = p k
+inside_zone : (low bytes past end offset size : ℕ) → past ≡ low + bytes → end ≡ low + 0xC0000 → 0x80000 ≤ offset →
+    size ≤ 4 → bytes < offset + size →
+    nat_le offset (0xC0000 - size) ≡ in_ranges low past (low + 0x80000) end (low + offset) size
+inside_zone low bytes past end offset size is ends above few beyond = grind (arith, nat_tests)
 
 module _ {image : ImageParts} {c : ℕ} {words : List ℕ} {code_from data_from bytes : ℕ} {zone : Bool}
     (looked : IsLookedUp image c words code_from data_from bytes zone) where
@@ -236,52 +231,49 @@ module _ {image : ImageParts} {c : ℕ} {words : List ℕ} {code_from data_from 
   few = omega (arith, looked.bytes_are, looked.few_bytes)
 
   pub looked_below : (a size : ℕ) → 0 < size → a < data_from → are_data image c a size ≡ false
-  looked_below a size some low = positive (λ n. are_data image c a n ≡ false) size some (λ k. by k (has_heap image c) refl)
-    where
-      by : (k : ℕ) (heap : Bool) → has_heap image c ≡ heap → are_data image c a (suc k) ≡ false
-      by k true is = with_zone image c few is a k ∙
-          not_below (data_start c) a _ (rw looked.data_from_is at low)
-      by k false is = plain image c is a k ∙ not_below (data_start c) a _ (rw looked.data_from_is at low)
+  looked_below a zero some low = absurd (omega (arith, some))
+  looked_below a (suc k) some low = by (has_heap image c) refl where
+    by : (heap : Bool) → has_heap image c ≡ heap → are_data image c a (suc k) ≡ false
+    by true is = with_zone image c few is a k ∙ not_below (data_start c) a _ (rw looked.data_from_is at low)
+    by false is = plain image c is a k ∙ not_below (data_start c) a _ (rw looked.data_from_is at low)
 
   -- within the stack and the globals
-  pub looked_near : (a size : ℕ) → 0 < size → data_from ≤ a → a + size ≤ data_from + bytes →
+  pub looked_near : (a size : ℕ) → 0 < size → size ≤ 4 → data_from ≤ a → a - data_from ≤ bytes - size →
       are_data image c a size ≡ true
-  looked_near a size some low high = positive (λ n. a + n ≤ data_from + bytes → are_data image c a n ≡ true) size some
-      (λ k. by k (has_heap image c) refl) high
-    where
-      by : (k : ℕ) (heap : Bool) → has_heap image c ≡ heap → a + suc k ≤ data_from + bytes →
-          are_data image c a (suc k) ≡ true
-      by k true is upto = with_zone image c few is a k ∙ near_ranges (data_start c) (past_globals image c) (zone_start c)
-          (data_end c) a (suc k) (rw looked.data_from_is at low)
-          (omega (arith, looked.data_from_is, looked.bytes_are, upto))
-      by k false is upto = plain image c is a k ∙ near_range (data_start c) (past_globals image c) a (suc k)
-          (rw looked.data_from_is at low) (omega (arith, looked.data_from_is, looked.bytes_are, upto))
+  looked_near a zero some small low near = absurd (omega (arith, some))
+  looked_near a (suc k) some small low near = by (has_heap image c) refl where
+    upto : a + suc k ≤ past_globals image c
+    upto = omega (arith, looked.data_from_is, looked.bytes_are, small, low, near)
+
+    by : (heap : Bool) → has_heap image c ≡ heap → are_data image c a (suc k) ≡ true
+    by true is = with_zone image c few is a k ∙ near_ranges (data_start c) (past_globals image c) (zone_start c)
+        (data_end c) a (suc k) (rw looked.data_from_is at low) upto
+    by false is = plain image c is a k ∙ near_range (data_start c) (past_globals image c) a (suc k)
+        (rw looked.data_from_is at low) upto
 
   -- beyond them, where there is no zone
-  pub looked_far : (a size : ℕ) → 0 < size → data_from + bytes < a + size → zone ≡ false →
+  pub looked_far : (a size : ℕ) → 0 < size → size ≤ 4 → bytes - size < a - data_from → zone ≡ false →
       are_data image c a size ≡ false
-  looked_far a size some far none = positive (λ n. data_from + bytes < a + n → are_data image c a n ≡ false) size some
-      (λ k beyond. plain image c (sym looked.zone_is ∙ none) a k ∙ far_range (data_start c) (past_globals image c) a
-      (suc k) (omega (arith, looked.data_from_is, looked.bytes_are, beyond))) far
+  looked_far a zero some small far none = absurd (omega (arith, some))
+  looked_far a (suc k) some small far none = plain image c (sym looked.zone_is ∙ none) a k ∙
+      far_range (data_start c) (past_globals image c) a (suc k)
+      (omega (arith, looked.data_from_is, looked.bytes_are, small, far))
 
-  -- and where there is one
-  pub looked_zone : (offset size : ℕ) (hole : Bool) → 0 < size → bytes < offset + size → has_heap image c ≡ true →
-      hole ≡ (nat_lt offset 0x80000 && nat_lt bytes 0x80000) →
-      (if hole then false else nat_le (offset + size) 0xC0000) ≡ are_data image c (data_start c + offset) size
-  looked_zone offset size hole some beyond heap is = positive (λ n. bytes < offset + n →
-      (if hole then false else nat_le (offset + n) 0xC0000) ≡ are_data image c (data_start c + offset) n) size some
-      (λ k more. by k more ∙ sym (with_zone image c few heap (data_start c + offset) k)) beyond
-    where
-      by : (k : ℕ) → bytes < offset + suc k → (if hole then false else nat_le (offset + suc k) 0xC0000) ≡
-          in_ranges (data_start c) (past_globals image c) (zone_start c) (data_end c) (data_start c + offset) (suc k)
-      by k more =
-          let last : data_end c ≡ data_start c + 0xC0000 = omega arith in
-          let place : past_globals image c ≡ data_start c + bytes = omega (arith, looked.bytes_are) in
-          let end : nat_le (data_start c + offset + suc k) (data_end c) ≡ nat_le (offset + suc k) 0xC0000 =
-          ap (nat_le _) last ∙ le_moved (data_start c) offset (suc k) 0xC0000 in
-          let from = lt_moved (data_start c) offset 0x80000 in
-          let past : nat_lt (past_globals image c) (zone_start c) ≡ nat_lt bytes 0x80000 =
-          ap (λ n. nat_lt n (zone_start c)) place ∙ lt_moved (data_start c) bytes 0x80000 in
-          sym (ap (λ (t : Bool). if hole then false else t) end) ∙
-          far_ranges (data_start c) (past_globals image c) (zone_start c) (data_end c) (data_start c + offset) (suc k)
-          hole (omega arith) (omega (arith, looked.bytes_are, more)) (is ∙ sym (ap₂ (λ (x y : Bool). x && y) from past))
+  -- and where there is one: half in it, or in it
+  pub looked_into : (offset size : ℕ) → 0 < size → size ≤ 4 → has_heap image c ≡ true →
+      stack_size + length (initial_globals image c) < offset + size → offset < 0x80000 →
+      nat_le 0x80000 bytes ≡ are_data image c (data_start c + offset) size
+  looked_into offset zero some small heap beyond below = absurd (omega (arith, some))
+  looked_into offset (suc k) some small heap beyond below =
+      into_zone (data_start c) bytes (past_globals image c) (data_end c) offset (suc k)
+      (omega (arith, looked.bytes_are)) (omega arith) below small (omega (arith, looked.bytes_are, beyond)) ∙
+      sym (with_zone image c few heap (data_start c + offset) k)
+
+  pub looked_inside : (offset size : ℕ) → 0 < size → size ≤ 4 → has_heap image c ≡ true →
+      stack_size + length (initial_globals image c) < offset + size → 0x80000 ≤ offset →
+      nat_le offset (0xC0000 - size) ≡ are_data image c (data_start c + offset) size
+  looked_inside offset zero some small heap beyond above = absurd (omega (arith, some))
+  looked_inside offset (suc k) some small heap beyond above =
+      inside_zone (data_start c) bytes (past_globals image c) (data_end c) offset (suc k)
+      (omega (arith, looked.bytes_are)) (omega arith) above small (omega (arith, looked.bytes_are, beyond)) ∙
+      sym (with_zone image c few heap (data_start c + offset) k)

@@ -36,11 +36,12 @@ pub(crate) fn environment_call(
             Ok(())
         }
         INPUT | OUTPUT => Err(TrapReason::NoImport),
-        ALLOC if here.has_zone() => {
+        _ if !here.has_zone() => Err(TrapReason::BadCall),
+        ALLOC => {
             alloc(here, hart);
             Ok(())
         }
-        FREE if here.has_zone() => free(here, hart),
+        FREE => free(here, hart),
         _ => Err(TrapReason::BadCall),
     }
 }

@@ -57,7 +57,7 @@ pub(crate) fn free(here: &Here<'_>, hart: &mut Hart) -> Result<(), TrapReason>
 
 /// The address of a place in the compartment's zone, and 0 for none.
 fn address_of(comp: CompId, place: Option<u32>) -> u32
-    requires { OnSome place (place ≤ zone_words) }
+    requires { IfSome place (λ place. place ≤ zone_words) }
     ensures { result ≡ zone_address comp place }
 {
     match place {

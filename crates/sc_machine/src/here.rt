@@ -4,7 +4,8 @@
 
 ghost use Rattle.std.specs.List.{HoldsAt};
 ghost use Rattle.std.specs.Prelude.{IfSome, ◌≡◌, ◌+◌, ◌*◌, ◌^◌, ◌<◌, ◌≤◌, length, OnSome, IsTrue};
-ghost use Rattle.sc_image.specs.Layout.{stretch, most_globals, code_in, has_heap, initial_globals, word_at, are_data};
+ghost use Rattle.sc_image.specs.Layout.{stretch, most_globals, code_in, data_start, has_heap, initial_globals, stack_size};
+ghost use Rattle.sc_image.specs.Layout.{word_at, are_data};
 ghost use Rattle.sc_store.specs.Memory.{HasBytes};
 ghost use Rattle.sc_image.specs.State.{start_memory};
 ghost use Rattle.sc_machine.specs.Place.{IsPlace};
@@ -163,8 +164,8 @@ impl<'a> Here<'a> {
         requires beyond { stack_size + length (initial_globals self.now.image self.now.comp) < offset + size }
         ensures { result ≡ are_data self.now.image self.now.comp (data_start self.now.comp + offset) size }
     {
-        if offset < ZONE && self.data_bytes < ZONE {
-            return false;
+        if offset < ZONE {
+            return self.data_bytes >= ZONE;
         }
         offset <= ZONE + ZONE_SIZE - size
     }

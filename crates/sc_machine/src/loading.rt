@@ -74,7 +74,6 @@ pub(crate) fn start_memory<S: Store>(alloc: Global, image: &Image) -> Result<S, 
 }
 
 /// The regions of each compartment's data.
-#[tactic(auto, using(crate::proofs::Start::next_regions))]
 fn regions(alloc: Global, comps: &[CompPart]) -> Result<Vec<Region>, AllocError>
     requires count { length comps.now ≤ most_compartments }
     requires few { All HasFewGlobals comps.now }
