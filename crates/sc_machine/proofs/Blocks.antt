@@ -123,20 +123,3 @@ module _ (state : MachineState) (c address : ℕ) (active : c ≡ state.active) 
       starts_nowhere state.active address (zone_of state state.active)
       (subst (λ n. (place : ℕ) → zone_start n + 4 * place ≢ address) active none) in
       rw (ne_eqb address 0 some, nowhere) refl
-
-  module _ (place : ℕ) (at : zone_start c + 4 * place ≡ address) where
-    starts : starts_block state.active (zone_of state state.active) address ≡
-        starts_at (slice_index_or state.zones c []) place
-    starts = subst (λ n. starts_block state.active (zone_of state state.active) n ≡
-        starts_at (slice_index_or state.zones c []) place) at
-        (subst (λ n. starts_block n (zone_of state n) (zone_start c + 4 * place) ≡
-        starts_at (slice_index_or state.zones c []) place) active (starts_there c place (zone_of state c)))
-
-    pub free_amiss : false ≡ starts_at (slice_index_or state.zones c []) place → Traps BadFree ≡ frees state address
-    free_amiss none = rw (ne_eqb address 0 some, starts, sym none) refl
-
-    pub free_block : true ≡ starts_at (slice_index_or state.zones c []) place →
-        next (with_zone state (without_span place (slice_index_or state.zones c []))) ≡ frees state address
-    free_block there =
-        let number : (address - zone_start state.active) / 4 ≡ place = omega (arith, at, active) in
-        rw (ne_eqb address 0 some, starts, sym there, number, sym active) refl
