@@ -1,12 +1,11 @@
 -- The blocks of a machine's zones: those of one zone among those of all, and what changes there when it changes.
-use Rattle.sc_machine.proofs.Common.{Bool, IsTrue, List, None, Option, Some, [], ap, ap₂, cases_lt, false, false≢true}
-use Rattle.sc_machine.proofs.Common.{arith, get_or-map, get_or_past, is_some, length, length-map, map, refl}
-use Rattle.sc_machine.proofs.Common.{slice_index_or, slice_set, subst, sym, true, unwrap_or, ℕ, ⊎_elim, ◌==◌, ◌+◌, ◌<◌}
-use Rattle.sc_machine.proofs.Common.{◌∙◌, ◌∷◌, ◌≡◌, ◌≤◌}
-use Rattle.sc_machine.proofs.Common.{CompPart, ImageParts, MachineState, Traps, has_heap, ne_eqb, slice_get, suc, zero}
-use Rattle.sc_machine.proofs.Common.{zone_start, ◌*◌, ◌-◌, ◌/◌, ◌≢◌}
+use Rattle.sc_machine.proofs.Common.{Bool, CompPart, ImageParts, IsTrue, List, MachineState, None, Option, Some, Traps}
+use Rattle.sc_machine.proofs.Common.{[], ap, ap₂, arith, cases_lt, false, false≢true, get_or-map, get_or_past, has_heap}
+use Rattle.sc_machine.proofs.Common.{is_some, length, length-map, map, ne_eqb, refl, slice_get, slice_index_or}
+use Rattle.sc_machine.proofs.Common.{slice_set, subst, suc, sym, true, unwrap_or, zero, zone_start, ℕ, ⊎_elim, ◌*◌, ◌+◌}
+use Rattle.sc_machine.proofs.Common.{◌-◌, ◌<◌, ◌==◌, ◌∙◌, ◌∷◌, ◌≡◌, ◌≢◌, ◌≤◌}
 use Rattle.sc_base.specs.declared.stop.TrapReason.TheVariants.{BadFree}
-use Rattle.sc_image.specs.Prelude.{frees, next, starts_block, with_zone, zone_of}
+use Rattle.sc_image.specs.Prelude.{frees, starts_block, zone_of}
 use Rattle.std.proofs.lemmas.Bool.Decides.{nat_tests}
 use Rattle.std.specs.Option.{option_map_or}
 use Rattle.std.proofs.Common.{IfSome, if◌then◌else◌, ◌||◌}
@@ -104,7 +103,8 @@ zone_there image c k there are at has = ap₂ (λ (tests : List Bool) (n : ℕ).
 same_place : (from p q : ℕ) → (from + 4 * p == from + 4 * q) ≡ (p == q)
 same_place from p q = grind (arith, nat_tests)
 
-starts_there : (c place : ℕ) (spans : List Span) → starts_block c spans (zone_start c + 4 * place) ≡ starts_at spans place
+starts_there : (c place : ℕ) (spans : List Span) →
+    starts_block c spans (zone_start c + 4 * place) ≡ starts_at spans place
 starts_there c place [] = refl
 starts_there c place (span ∷ spans) =
     ap₂ (λ (x y : Bool). x || y) (same_place (zone_start c) span.place place) (starts_there c place spans)

@@ -1,17 +1,16 @@
 -- The names that several proofs of this crate cite, passed on from one place. Declares nothing.
 pub use Rattle.std.proofs.Common.{All, Bool, Err, IsSome, IsTrue, List, None, Ok, OnSome, Option, Result, Some, []}
-pub use Rattle.std.proofs.Common.{add-zero, add_assoc, ap, append_assoc, ap₂, arith, eq-eqb, eqb-true, false, fold}
-pub use Rattle.std.proofs.Common.{get_or, if◌then◌else◌, is_ok, is_some, le-leb, le-ltb, length, length-append}
-pub use Rattle.std.proofs.Common.{length-set, lt-ltb, map, nat_le, nat_lt, ne_eqb, position, refl, rules, slice_index, slice_index_or}
-pub use Rattle.std.proofs.Common.{append-nil, slice_set, ◌||◌}
-pub use Rattle.std.specs.List.{list_any}
-pub use Rattle.std.proofs.Common.{subst, suc, sum, sym, take, true, unwrap_or, zero, ℕ, ℤ, ⊎_elim, ◌%◌, ◌&&◌, ◌*◌, ◌++◌}
-pub use Rattle.std.proofs.Common.{◌+◌, ◌-◌, ◌/◌, ◌<◌, ◌==◌, ◌^◌, ◌∙◌, ◌∷◌, ◌≡◌, ◌≢◌, ◌≤◌}
+pub use Rattle.std.proofs.Common.{add-zero, add_assoc, ap, append-nil, append_assoc, ap₂, arith, eq-eqb, eqb-true}
+pub use Rattle.std.proofs.Common.{false, fold, get_or, if◌then◌else◌, is_ok, is_some, le-leb, length}
+pub use Rattle.std.proofs.Common.{length-append, length-set, map, nat_le, nat_lt, ne_eqb, position, refl, rules}
+pub use Rattle.std.proofs.Common.{slice_index, slice_index_or, slice_set, subst, suc, sum, sym, take, true, unwrap_or}
+pub use Rattle.std.proofs.Common.{zero, ℕ, ℤ, ⊎_elim, ◌%◌, ◌&&◌, ◌*◌, ◌++◌, ◌+◌, ◌-◌, ◌/◌, ◌<◌, ◌==◌, ◌^◌, ◌||◌, ◌∙◌}
+pub use Rattle.std.proofs.Common.{◌∷◌, ◌≡◌, ◌≢◌, ◌≤◌}
+pub use Rattle.std.specs.List.{list_any, slice_get}
 pub use Rattle.std.proofs.lemmas.Bool.{and_parts, cases_lt, false≢true, lt-leb}
 pub use Rattle.std.proofs.lemmas.List.{get_or-map, get_or_past, length-map, map-append}
 pub use Rattle.std.proofs.lemmas.List.Elements.{All-cons, All-head, All-nil, All-tail}
 pub use Rattle.std.proofs.lemmas.Option.{get_or_from_slice_get, slice_get-get_or, slice_get_cases, slice_get_within}
-pub use Rattle.std.specs.List.{slice_get}
 pub use Rattle.sc_word.specs.Prelude.{add_word, word_of}
 pub use Rattle.sc_store.proofs.Parts.{next_there, one_there, written-apart, written-in, written-stored, written_more}
 pub use Rattle.sc_store.proofs.Parts.{written_nothing}

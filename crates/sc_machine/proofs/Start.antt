@@ -1,8 +1,8 @@
 -- The memory at the start: zeros, and then the globals.
-use Rattle.sc_machine.proofs.Common.{All, All-cons, All-head, All-nil, All-tail, AreApart, AreBelow, Bool, CompPart}
-use Rattle.sc_machine.proofs.Common.{Filled, HasBytes, HasFewGlobals, ImageParts, IsIn, IsSome, IsWellFormed, List}
-use Rattle.sc_machine.proofs.Common.{ByteMemory, None, Option, Some, [], all_data, ap, append-nil, append_assoc, ap₂}
-use Rattle.sc_machine.proofs.Common.{arith, byte_at, byte_of, cases_lt, comp_of_data, data_start, data_with, false}
+use Rattle.sc_machine.proofs.Common.{All, All-cons, All-head, All-nil, All-tail, AreApart, AreBelow, Bool, ByteMemory}
+use Rattle.sc_machine.proofs.Common.{CompPart, Filled, HasBytes, HasFewGlobals, ImageParts, IsIn, IsSome, IsWellFormed}
+use Rattle.sc_machine.proofs.Common.{List, None, Option, Some, [], all_data, ap, append-nil, append_assoc, ap₂, arith}
+use Rattle.sc_machine.proofs.Common.{byte_at, byte_of, cases_lt, comp_of_data, data_start, data_with, false}
 use Rattle.sc_machine.proofs.Common.{filled_with, get_or, get_or_past, if◌then◌else◌, is_in, length, lt-leb, map-append}
 use Rattle.sc_machine.proofs.Common.{most_globals, nat_le, nat_lt, refl, regions_of, slice_get, slice_get-get_or}
 use Rattle.sc_machine.proofs.Common.{slice_index, stack_size, stack_top, stack_tops, start_memory, stretch, suc, sym}
@@ -11,7 +11,7 @@ use Rattle.sc_machine.proofs.Common.{written_nothing, zero, zeros, zone_size, zo
 use Rattle.sc_machine.proofs.Common.{◌-◌, ◌<◌, ◌^◌, ◌∙◌, ◌∷◌, ◌≡◌, ◌≤◌}
 use Rattle.sc_store.specs.declared.region.Region.{Region}
 use Rattle.std.specs.Option.{option_and_then}
-use Rattle.sc_store.proofs.Words.{in_true, in_false, in_cases}
+use Rattle.sc_store.proofs.Words.{in_cases, in_false, in_true}
 
 -- One byte.
 

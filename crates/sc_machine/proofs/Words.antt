@@ -1,13 +1,13 @@
 -- The code and the data of a compartment: what its words are, which accesses are allowed, and returns by a jump.
-use Rattle.sc_machine.proofs.Common.{Bool, CompPart, Filled, Goes, HasBytes, ImageParts, IsWellFormed, List, None, OnSome}
-use Rattle.sc_machine.proofs.Common.{Option, Some, MachineState, [], add-zero, add_word, and_parts, ap, ap₂, are_data, arith}
-use Rattle.sc_machine.proofs.Common.{byte_at, cases_lt, code_in, code_start, comp_of_data, data_end, data_regions}
-use Rattle.sc_machine.proofs.Common.{data_start, data_with, eq-eqb, execute, execute_by, false, gate, has_heap}
-use Rattle.sc_machine.proofs.Common.{initial_globals, if◌then◌else◌, is_in, is_some, le-leb, length, list_any, lt-leb, map}
-use Rattle.sc_machine.proofs.Common.{most_globals, nat_le, nat_lt, ne_eqb, refl, reg, on_return, slice_get}
-use Rattle.sc_machine.proofs.Common.{slice_get_cases, slice_get_within, slice_index, stack_size, stack_top, start_memory}
-use Rattle.sc_machine.proofs.Common.{stretch, subst, suc, sym, true, word_at, word_of, zero, zone_start, ℕ, ℤ, ⊎_elim}
-use Rattle.sc_machine.proofs.Common.{◌%◌, ◌&&◌, ◌*◌, ◌+◌, ◌-◌, ◌/◌, ◌<◌, ◌||◌, ◌∙◌, ◌∷◌, ◌≡◌, ◌≢◌, ◌≤◌}
+use Rattle.sc_machine.proofs.Common.{Bool, CompPart, Filled, Goes, HasBytes, ImageParts, IsWellFormed, List}
+use Rattle.sc_machine.proofs.Common.{MachineState, None, OnSome, Option, Some, [], add-zero, add_word, and_parts, ap}
+use Rattle.sc_machine.proofs.Common.{ap₂, are_data, arith, byte_at, cases_lt, code_in, code_start, comp_of_data}
+use Rattle.sc_machine.proofs.Common.{data_end, data_regions, data_start, data_with, eq-eqb, execute, execute_by, false}
+use Rattle.sc_machine.proofs.Common.{gate, has_heap, if◌then◌else◌, initial_globals, is_in, is_some, le-leb, length}
+use Rattle.sc_machine.proofs.Common.{list_any, lt-leb, map, most_globals, nat_le, nat_lt, ne_eqb, on_return, refl, reg}
+use Rattle.sc_machine.proofs.Common.{slice_get, slice_get_cases, slice_get_within, slice_index, stack_size, stack_top}
+use Rattle.sc_machine.proofs.Common.{start_memory, stretch, subst, suc, sym, true, word_at, word_of, zero, zone_start}
+use Rattle.sc_machine.proofs.Common.{ℕ, ℤ, ⊎_elim, ◌%◌, ◌&&◌, ◌*◌, ◌+◌, ◌-◌, ◌/◌, ◌<◌, ◌||◌, ◌∙◌, ◌∷◌, ◌≡◌, ◌≢◌, ◌≤◌}
 use Rattle.sc_machine.specs.Place.{IsLookedUp, IsPlace}
 use Rattle.sc_store.specs.declared.region.Region.{Region}
 use Rattle.rv_code.specs.declared.instr.Instr.TheVariants.{Jalr}
@@ -158,7 +158,8 @@ module _ (image : ImageParts) (c : ℕ) where
 
 -- There is a byte at each of a compartment's addresses at the start.
 
-some_at : (all : List Filled) (x : ℕ) → is_some (byte_at all x) ≡ in_any (map (λ (filled : Filled). filled.region) all) x
+some_at : (all : List Filled) (x : ℕ) →
+    is_some (byte_at all x) ≡ in_any (map (λ (filled : Filled). filled.region) all) x
 some_at [] x = refl
 some_at (filled ∷ others) x = by (is_in filled.region x) (some_at others x) where
   by : (inside : Bool) → is_some (byte_at others x) ≡ in_any (map (λ (other : Filled). other.region) others) x →

@@ -51,8 +51,8 @@ linked core rd target = record { registers = written core.registers rd (core.pc 
 abbrev pub advanced : Core → Core
 advanced core = record { registers = core.registers; pc = core.pc + 4 }
 
--- the active compartment and those that wait are the image's, each of its compartments has a saved sp, and a zone if it has
--- a heap, and each input that was read is in the trace
+-- the active compartment and those that wait are the image's, each of its compartments has a saved sp, those with a
+-- heap have a zone, and each input that was read is in the trace
 pub record IsSound (image : ImageParts) (hart : Hart) : Type 0 where
   pub place : IsPlace image hart.active
   pub callers : All (λ call. call.caller < length image.comps) hart.cross.calls

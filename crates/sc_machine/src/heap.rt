@@ -4,7 +4,7 @@
 ghost use Rattle.sc_machine.specs.Prelude.{Goes, IsReady, LeavesSound, ByteMemory, StaysSound, a0, a1, frees, has_heap};
 ghost use Rattle.sc_machine.specs.Prelude.{next, on_alloc, outcome_of, reg, state_in, zone_address, zone_start};
 ghost use Rattle.sc_zone.specs.Prelude.{zone_words};
-ghost use Rattle.std.specs.Prelude.{◌≡◌, ◌≢◌, ◌+◌, ◌*◌, ◌^◌, ◌<◌, ◌≤◌, ℕ, IfNone, IfSome, IsTrue, OnErr, OnSome};
+ghost use Rattle.std.specs.Prelude.{IfNone, IfSome, IsTrue, ℕ, ◌*◌, ◌+◌, ◌<◌, ◌^◌, ◌≡◌, ◌≢◌, ◌≤◌};
 
 use crate::hart::Hart;
 use crate::here::Here;

@@ -4,8 +4,8 @@
 
 ghost use Rattle.std.specs.List.{HoldsAt};
 ghost use Rattle.std.specs.Prelude.{IfSome, ◌≡◌, ◌+◌, ◌*◌, ◌^◌, ◌<◌, ◌≤◌, length, OnSome, IsTrue};
-ghost use Rattle.sc_image.specs.Layout.{stretch, most_globals, code_in, data_start, has_heap, initial_globals, stack_size};
-ghost use Rattle.sc_image.specs.Layout.{word_at, are_data};
+ghost use Rattle.sc_image.specs.Layout.{are_data, code_in, data_start, has_heap, initial_globals, most_globals};
+ghost use Rattle.sc_image.specs.Layout.{stack_size, stretch, word_at};
 ghost use Rattle.sc_store.specs.Memory.{HasBytes};
 ghost use Rattle.sc_image.specs.State.{start_memory};
 ghost use Rattle.sc_machine.specs.Place.{IsPlace};

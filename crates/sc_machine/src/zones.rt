@@ -2,7 +2,8 @@
 #![tactic(auto)]
 
 ghost use Rattle.sc_zone.specs.Prelude.{least_free, starts_at, taken, without_span, zone_words};
-ghost use Rattle.std.specs.Prelude.{◌≡◌, ◌≤◌, [], false, map, slice_index_or, slice_set, IfOk, IfSome, IsTrue, is_some, unwrap_or};
+ghost use Rattle.std.specs.Prelude.{IfOk, IfSome, IsTrue, [], false, is_some, map, slice_index_or, slice_set};
+ghost use Rattle.std.specs.Prelude.{unwrap_or, ◌≡◌, ◌≤◌};
 
 use sc_base::OutOfMemory;
 use sc_event::CompId;
