@@ -3,3 +3,4 @@ pub mod Words
 pub mod Start
 pub mod Callees
 pub mod Runs
+mod Blocks

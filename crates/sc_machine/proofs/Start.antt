@@ -1,18 +1,17 @@
 -- The memory at the start: zeros, and then the globals.
-use Rattle.sc_machine.proofs.Common.{All, All-cons, All-head, All-nil, All-tail, AreApart, AreBelow, Bool, CompPart}
-use Rattle.sc_machine.proofs.Common.{Filled, HasBytes, HasFewGlobals, ImageParts, IsIn, IsSome, IsWellFormed, List}
-use Rattle.sc_machine.proofs.Common.{ByteMemory, None, Option, Some, [], all_data, ap, append_assoc, ap₂, arith}
-use Rattle.sc_machine.proofs.Common.{byte_at}
-use Rattle.sc_machine.proofs.Common.{byte_of, cases_lt, data_start, data_with, false, filled_with, get_or, get_or_past}
-use Rattle.sc_machine.proofs.Common.{if◌then◌else◌, is_in, length, lt-ltb, map-append, most_globals, nat_le, nat_lt}
-use Rattle.sc_machine.proofs.Common.{refl, regions_of, slice_get, slice_get-get_or, slice_index, stack_size, stack_top}
-use Rattle.sc_machine.proofs.Common.{stack_tops, start_is, start_memory, with_bytes, stretch, suc, sym, take, true}
-use Rattle.sc_machine.proofs.Common.{written}
-use Rattle.sc_machine.proofs.Common.{written-apart, written-in, written-stored, written_nothing, zero, zeros, ℕ, ⊎_elim}
-use Rattle.sc_machine.proofs.Common.{◌&&◌, ◌++◌, ◌+◌, ◌-◌, ◌<◌, ◌^◌, ◌∙◌, ◌∷◌, ◌≡◌, ◌≤◌}
+use Rattle.sc_machine.proofs.Common.{All, All-cons, All-head, All-nil, All-tail, AreApart, AreBelow, Bool, ByteMemory}
+use Rattle.sc_machine.proofs.Common.{CompPart, Filled, HasBytes, HasFewGlobals, ImageParts, IsIn, IsSome, IsWellFormed}
+use Rattle.sc_machine.proofs.Common.{List, None, Option, Some, [], all_data, ap, append-nil, append_assoc, ap₂, arith}
+use Rattle.sc_machine.proofs.Common.{byte_at, byte_of, cases_lt, comp_of_data, data_start, data_with, false}
+use Rattle.sc_machine.proofs.Common.{filled_with, get_or, get_or_past, if◌then◌else◌, is_in, length, lt-leb, map-append}
+use Rattle.sc_machine.proofs.Common.{most_globals, nat_le, nat_lt, refl, regions_of, slice_get, slice_get-get_or}
+use Rattle.sc_machine.proofs.Common.{slice_index, stack_size, stack_top, stack_tops, start_memory, stretch, suc, sym}
+use Rattle.sc_machine.proofs.Common.{take, true, with_bytes, written, written-apart, written-in, written-stored}
+use Rattle.sc_machine.proofs.Common.{written_nothing, zero, zeros, zone_size, zone_start, ℕ, ⊎_elim, ◌&&◌, ◌++◌, ◌+◌}
+use Rattle.sc_machine.proofs.Common.{◌-◌, ◌<◌, ◌^◌, ◌∙◌, ◌∷◌, ◌≡◌, ◌≤◌}
 use Rattle.sc_store.specs.declared.region.Region.{Region}
 use Rattle.std.specs.Option.{option_and_then}
-use Rattle.sc_store.proofs.Words.{in_true, in_false, in_cases}
+use Rattle.sc_store.proofs.Words.{in_cases, in_false, in_true}
 
 -- One byte.
 
@@ -58,6 +57,19 @@ module _ (comp : CompPart) (c : ℕ) where
   abbrev globals : Filled
   globals = record { region = record { start = stack_top c; bytes = length comp.globals }; bytes = comp.globals }
 
+-- its zone, if it has one
+abbrev zone : ℕ → Filled
+zone c = record { region = record { start = zone_start c; bytes = zone_size }; bytes = [] }
+
+abbrev zone_if : Bool → ℕ → List Filled
+zone_if heap c = if heap then zone c ∷ [] else []
+
+zone_ordered : (heap : Bool) (c low : ℕ) (rest : List Filled) → low ≤ zone_start c →
+    ((from : ℕ) → from ≤ data_start (suc c) → Ordered from (regions_of rest)) →
+    Ordered low (regions_of (zone_if heap c ++ rest))
+zone_ordered true c low rest below follows = (below, follows _ (omega arith))
+zone_ordered false c low rest below follows = follows low (omega (arith, below))
+
 ordered : (comps : List CompPart) (c low : ℕ) → All HasFewGlobals comps → low ≤ data_start c →
     Ordered low (regions_of (all_data c comps))
 ordered [] c low few from = tt
@@ -66,7 +78,8 @@ ordered (comp ∷ comps) c low few from =
       from,
       (
         omega arith,
-        ordered comps _ _ (All-tail HasFewGlobals comp comps few) (omega (arith, first)),
+        zone_ordered comp.heap c _ (all_data (suc c) comps) (omega (arith, first))
+            (λ next below. ordered comps (suc c) next (All-tail HasFewGlobals comp comps few) below),
       ),
     )
 
@@ -76,19 +89,29 @@ regions_apart comps few = apart_by _ 0 (ordered comps 0 0 few (omega arith))
 abbrev IsBelow : Region → Type 0
 IsBelow region = region.start + region.bytes ≤ 2 ^ 32
 
+zone_below : (heap : Bool) (c : ℕ) (rest : List Filled) → c < 32 → AreBelow (regions_of rest) →
+    AreBelow (regions_of (zone_if heap c ++ rest))
+zone_below true c rest few below = All-cons IsBelow (zone c).region (regions_of rest) (omega (arith, few)) below
+zone_below false c rest few below = below
+
 below_from : (comps : List CompPart) (c : ℕ) → c + length comps ≤ 32 → All HasFewGlobals comps →
     AreBelow (regions_of (all_data c comps))
 below_from [] c count few = All-nil IsBelow
 below_from (comp ∷ comps) c count few =
     let first = All-head HasFewGlobals comp comps few in
-    let rest = regions_of _ in
+    let rest = regions_of (zone_if comp.heap c ++ all_data (suc c) comps) in
     All-cons IsBelow (stack comp c).region ((globals comp c).region ∷ rest) (omega (arith, count))
     (All-cons IsBelow (globals comp c).region rest (omega (arith, count, first))
-    (below_from comps _ (omega (arith, count)) (All-tail HasFewGlobals comp comps few)))
+    (zone_below comp.heap c (all_data (suc c) comps) (omega (arith, count))
+    (below_from comps (suc c) (omega (arith, count)) (All-tail HasFewGlobals comp comps few))))
 
 pub regions_below : (comps : List CompPart) → length comps ≤ 32 → All HasFewGlobals comps →
     AreBelow (regions_of (all_data 0 comps))
 regions_below comps count few = below_from comps 0 (omega (arith, count)) few
+
+pub tops_length : (comps : List CompPart) (c : ℕ) → length (stack_tops c comps) ≡ length comps
+tops_length [] c = refl
+tops_length (comp ∷ comps) c = ap suc (tops_length comps (suc c))
 
 -- one stack more
 pub tops_more : (comps : List CompPart) (c i n : ℕ) → n ≡ c + i → i < length comps →
@@ -153,14 +176,22 @@ filled_is (filled ∷ others) low a order within = ⊎_elim (λ inside. kept_bel
 
 -- its data after those of the compartments before it
 data_more : (comps : List CompPart) (c i n : ℕ) (comp : CompPart) → n ≡ c + i → slice_get comps i ≡ Some comp →
-    all_data c (take (suc i) comps) ≡ all_data c (take i comps) ++ stack comp n ∷ globals comp n ∷ []
+    all_data c (take (suc i) comps) ≡ all_data c (take i comps) ++ data_with n comp.globals comp.heap
 data_more [] c i n comp place is = let never = is in cc never
 data_more (x ∷ xs) c zero n comp place is =
     let first : c ≡ n = omega arith in
     let same : x ≡ comp = cc is in
-    ap₂ (λ k (y : CompPart). stack y k ∷ globals y k ∷ []) first same
+    append-nil _ ∙ ap₂ (λ k (y : CompPart). data_with k y.globals y.heap) first same
 data_more (x ∷ xs) c (suc i) n comp place is =
-    ap (λ rest. stack x c ∷ globals x c ∷ rest) (data_more xs _ i n comp (omega arith) is)
+    ap (λ rest. data_with c x.globals x.heap ++ rest) (data_more xs (suc c) i n comp (omega arith) is) ∙
+    sym (append_assoc (data_with c x.globals x.heap) _ _)
+
+-- what is put of it: its globals
+own_filled : (heap : Bool) (c : ℕ) (bytes : List ℕ) (m : ByteMemory) →
+    filled_with (data_with c bytes heap) m ≡ written m (stack_top c) bytes
+own_filled true c bytes m = written_nothing _ (zone_start c) ∙
+    ap (λ before. written before (stack_top c) bytes) (written_nothing m (data_start c))
+own_filled false c bytes m = ap (λ before. written before (stack_top c) bytes) (written_nothing m (data_start c))
 
 filled_with_both : (all others : List Filled) (m : ByteMemory) →
     filled_with (all ++ others) m ≡ filled_with others (filled_with all m)
@@ -176,6 +207,11 @@ some_kept : (all : List Filled) (m : ByteMemory) (a : ℕ) → IsSome (m a) → 
 some_kept [] m a h = h
 some_kept (filled ∷ others) m a h = some_kept others _ a (some_by _ _ (m a) h)
 
+zeros_after : (all others : List Filled) (a : ℕ) → IsSome (zeros (regions_of others) a) →
+    IsSome (zeros (regions_of (all ++ others)) a)
+zeros_after [] others a h = h
+zeros_after (filled ∷ all) others a h = some_by (is_in filled.region a) 0 _ (zeros_after all others a h)
+
 zero_is : (comps : List CompPart) (c i n a : ℕ) (comp : CompPart) → n ≡ c + i → slice_get comps i ≡ Some comp →
     stack_top n ≤ a → a < stack_top n + length comp.globals → IsSome (zeros (regions_of (all_data c comps)) a)
 zero_is [] c i n a comp place is low high = let never : ◌≡◌ {A = Option CompPart} None (Some comp) = is in cc never
@@ -185,8 +221,9 @@ zero_is (x ∷ xs) c zero n a comp place is low high =
     let inside : is_in (globals x c).region a ≡ true =
     rw (first, same) (in_true (globals comp n).region a (low, high)) in
     some_by (is_in (stack x c).region a) 0 _ (rw inside refl)
-zero_is (x ∷ xs) c (suc i) n a comp place is low high = some_by (is_in (stack x c).region a) 0 _
-    (some_by (is_in (globals x c).region a) 0 _ (zero_is xs (suc c) i n a comp (omega arith) is low high))
+zero_is (x ∷ xs) c (suc i) n a comp place is low high =
+    zeros_after (data_with c x.globals x.heap) (all_data (suc c) xs) a
+    (zero_is xs (suc c) i n a comp (omega arith) is low high)
 
 globals_there : (comps : List CompPart) (i k : ℕ) (comp : CompPart) → slice_get comps i ≡ Some comp →
     HasBytes (filled_with (all_data 0 (take k comps)) (zeros (regions_of (all_data 0 comps)))) (stack_top i)
@@ -199,13 +236,12 @@ item_there : (comps : List CompPart) (i : ℕ) (comp : CompPart) → i < length 
     slice_get comps i ≡ Some comp
 item_there comps i comp h is = slice_get-get_or comps i comp h ∙ ap Some (sym is)
 
-pub next_regions : (comps : List CompPart) (i : ℕ) (comp : CompPart) (regions : List Region) (first second : Region) →
-    i < length comps → comp ≡ get_or comps i comp → regions ≡ regions_of (all_data 0 (take i comps)) →
-    first ≡ (stack comp i).region → second ≡ (globals comp i).region →
-    (regions ++ first ∷ []) ++ second ∷ [] ≡ regions_of (all_data 0 (take (i + 1) comps))
-next_regions comps i comp regions first second h item so_far one two =
+pub next_regions : (comps : List CompPart) (i : ℕ) (comp : CompPart) (regions : List Region) → i < length comps →
+    comp ≡ get_or comps i comp → regions ≡ regions_of (all_data 0 (take i comps)) →
+    regions ++ regions_of (data_with i comp.globals comp.heap) ≡ regions_of (all_data 0 (take (i + 1) comps))
+next_regions comps i comp regions h item so_far =
     let more : i + 1 ≡ suc i = omega arith in
-    append_assoc regions (first ∷ []) (second ∷ []) ∙ rw (so_far, one, two, more)
+    rw (so_far, more)
     (sym (ap regions_of (data_more comps 0 i i comp (omega arith) (item_there comps i comp h item)) ∙
     map-append _ (all_data 0 (take i comps)) _))
 
@@ -228,54 +264,89 @@ module _ (comps : List CompPart) (i : ℕ) (comp : CompPart) (h : i < length com
       is ∙ rw (so_far, at, are, more) (sym (ap (λ all. filled_with all first)
       (data_more comps 0 i i comp (omega arith) (item_there comps i comp h item)) ∙
       filled_with_both (all_data 0 (take i comps)) _ first ∙
-      ap (λ m. written m (stack_top i) comp.globals) (written_nothing _ (data_start i))))
+      own_filled comp.heap i comp.globals _))
 
 -- All together are the memory of the start.
 
+zone_within : (heap : Bool) (c : ℕ) (rest : List Filled) → AreWithin rest → AreWithin (zone_if heap c ++ rest)
+zone_within true c rest within = (omega arith, within)
+zone_within false c rest within = within
+
 within_all : (comps : List CompPart) (c : ℕ) → AreWithin (all_data c comps)
 within_all [] c = tt
-within_all (comp ∷ comps) c = (omega arith, (omega arith, within_all comps _))
+within_all (comp ∷ comps) c =
+    (omega arith, (omega arith, zone_within comp.heap c (all_data (suc c) comps) (within_all comps (suc c))))
 
 -- an address that isn't in a compartment's stretch
-elsewhere : (comp : CompPart) (comps : List CompPart) (c a : ℕ) → length comp.globals ≤ most_globals →
-    (data_start c ≤ a → a < data_start c + stretch → ⊥) →
-    byte_at (all_data c (comp ∷ comps)) a ≡ byte_at (all_data (suc c) comps) a
-elsewhere comp comps c a few outside =
+below_none : (heap : Bool) (c a : ℕ) (bytes : List ℕ) → a < data_start c → byte_at (data_with c bytes heap) a ≡ None
+below_none true c a bytes low =
     rw (
-      in_false (stack comp c).region a (λ inside. outside inside.0 (omega (arith, inside.1))),
-      in_false (globals comp c).region a (λ inside. outside (omega (arith, inside.0)) (omega (arith, inside.1, few))),
+      lt-leb (data_start c) a low,
+      lt-leb (stack_top c) a (omega (arith, low)),
+      lt-leb (zone_start c) a (omega (arith, low)),
+    ) refl
+below_none false c a bytes low = rw (lt-leb (data_start c) a low, lt-leb (stack_top c) a (omega (arith, low))) refl
+
+past_none : (heap : Bool) (c a : ℕ) (bytes : List ℕ) → length bytes ≤ most_globals → data_start c + stretch ≤ a →
+    byte_at (data_with c bytes heap) a ≡ None
+past_none true c a bytes few past =
+    rw (
+      in_false (record { start = data_start c; bytes = stack_size }) a (λ inside. omega (arith, inside.1, past)),
+      in_false (record { start = stack_top c; bytes = length bytes }) a (λ inside. omega (arith, inside.1, past, few)),
+      in_false (record { start = zone_start c; bytes = zone_size }) a (λ inside. omega (arith, inside.1, past)),
+    ) refl
+past_none false c a bytes few past =
+    rw (
+      in_false (record { start = data_start c; bytes = stack_size }) a (λ inside. omega (arith, inside.1, past)),
+      in_false (record { start = stack_top c; bytes = length bytes }) a (λ inside. omega (arith, inside.1, past, few)),
     ) refl
 
-none_below : (comps : List CompPart) (c a : ℕ) → All HasFewGlobals comps → a < data_start c →
-    byte_at (all_data c comps) a ≡ None
-none_below [] c a few under = refl
-none_below (comp ∷ comps) c a few under =
-    elsewhere comp comps c a (All-head HasFewGlobals comp comps few) (λ from upto. omega (arith, under, from)) ∙
-    none_below comps _ a (All-tail HasFewGlobals comp comps few) (omega (arith, under))
+byte_before : (all others : List Filled) (a : ℕ) → byte_at others a ≡ None → byte_at (all ++ others) a ≡ byte_at all a
+byte_before [] others a none = none
+byte_before (filled ∷ all) others a none = ap (λ rest. if is_in filled.region a then Some
+    (slice_index filled.bytes (a - filled.region.start)) else rest) (byte_before all others a none)
 
--- and one that is
-here : (comp : CompPart) (comps : List CompPart) (c a : ℕ) → All HasFewGlobals comps → a < data_start c + stretch →
-    byte_at (all_data c (comp ∷ comps)) a ≡ byte_at (data_with c comp.globals) a
-here comp comps c a few upto = ap (λ rest. if is_in (stack comp c).region a then Some
-    (slice_index [] (a - data_start c)) else if is_in (globals comp c).region a then Some
-    (slice_index comp.globals (a - stack_top c)) else rest) (none_below comps (suc c) a few (omega (arith, upto)))
+byte_after : (all others : List Filled) (a : ℕ) → byte_at all a ≡ None → byte_at (all ++ others) a ≡ byte_at others a
+byte_after [] others a none = refl
+byte_after (filled ∷ all) others a none = by (is_in filled.region a) none (byte_after all others a) where
+  by : (inside : Bool) →
+      (if inside then Some (slice_index filled.bytes (a - filled.region.start)) else byte_at all a) ≡ None →
+      (byte_at all a ≡ None → byte_at (all ++ others) a ≡ byte_at others a) →
+      (if inside then Some (slice_index filled.bytes (a - filled.region.start)) else byte_at (all ++ others) a) ≡
+      byte_at others a
+  by true empty rest = let never = empty in cc never
+  by false empty rest = rest empty
+
+none_below : (comps : List CompPart) (c a : ℕ) → a < data_start c → byte_at (all_data c comps) a ≡ None
+none_below [] c a under = refl
+none_below (comp ∷ comps) c a under =
+    byte_after (data_with c comp.globals comp.heap) (all_data (suc c) comps) a
+    (below_none comp.heap c a comp.globals under) ∙ none_below comps (suc c) a (omega (arith, under))
 
 at_comp : (comps : List CompPart) (c i n a : ℕ) → All HasFewGlobals comps → n ≡ c + i → data_start n ≤ a →
     a < data_start n + stretch → byte_at (all_data c comps) a ≡ option_and_then
-    (λ (comp : CompPart). byte_at (data_with n comp.globals) a) (slice_get comps i)
+    (λ (comp : CompPart). byte_at (data_with n comp.globals comp.heap) a) (slice_get comps i)
 at_comp [] c i n a few place from upto = refl
 at_comp (comp ∷ comps) c zero n a few place from upto =
     let first : c ≡ n = omega arith in
-    here comp comps c a (All-tail HasFewGlobals comp comps few) (omega (arith, first, upto)) ∙
-    ap (λ k. byte_at (data_with k comp.globals) a) first
+    byte_before (data_with c comp.globals comp.heap) (all_data (suc c) comps) a
+    (none_below comps (suc c) a (omega (arith, first, upto))) ∙
+    ap (λ k. byte_at (data_with k comp.globals comp.heap) a) first
 at_comp (comp ∷ comps) c (suc i) n a few place from upto =
-    elsewhere comp comps c a (All-head HasFewGlobals comp comps few) (λ low high. omega (arith, place, from, high)) ∙
-    at_comp comps _ i n a (All-tail HasFewGlobals comp comps few) (omega (arith, place)) from upto
+    byte_after (data_with c comp.globals comp.heap) (all_data (suc c) comps) a
+    (past_none comp.heap c a comp.globals (All-head HasFewGlobals comp comps few) (omega (arith, place, from))) ∙
+    at_comp comps (suc c) i n a (All-tail HasFewGlobals comp comps few) (omega (arith, place)) from upto
+
+start_below : (c a : ℕ) (found : Option CompPart) → a < data_start 0 →
+    option_and_then (λ (comp : CompPart). byte_at (data_with c comp.globals comp.heap) a) found ≡ None
+start_below c a None low = refl
+start_below c a (Some comp) low = below_none comp.heap c a comp.globals (omega (arith, low))
 
 all_is : (image : ImageParts) (a : ℕ) → All HasFewGlobals image.comps →
     byte_at (all_data 0 image.comps) a ≡ start_memory image a
 unfolding start_memory
-all_is image a few = ⊎_elim (λ low. none_below _ 0 a few low ∙ sym (start_is a image ∙ rw (lt-ltb a _ low) refl))
+all_is image a few = ⊎_elim (λ low. none_below image.comps 0 a low ∙
+    sym (start_below (comp_of_data a) a (slice_get image.comps (comp_of_data a)) low))
     (λ from. at_comp _ 0 _ _ a few (omega arith) (omega (arith, from)) (omega (arith, from))) (cases_lt a _)
 
 pub starts : (image : ImageParts) → IsWellFormed image →

@@ -1,15 +1,15 @@
 -- The code and the data of a compartment: what its words are, which accesses are allowed, and returns by a jump.
-use Rattle.sc_machine.proofs.Common.{Bool, CompPart, Goes, HasBytes, ImageParts, IsWellFormed, List, None, OnSome}
-use Rattle.sc_machine.proofs.Common.{Option, Some, MachineState, add_word, ap, are_data, arith, code_in, code_start}
-use Rattle.sc_machine.proofs.Common.{comp_of_data, data_bounds, data_start, eq-eqb, execute, execute_by, false, gate}
-use Rattle.sc_machine.proofs.Common.{initial_globals, if◌then◌else◌, is_some, le-leb, le-ltb, length, lt-leb}
-use Rattle.sc_machine.proofs.Common.{most_globals}
-use Rattle.sc_machine.proofs.Common.{nat_le, nat_lt, ne_eqb, range_of, refl, reg, on_return, slice_get, slice_get_cases}
-use Rattle.sc_machine.proofs.Common.{slice_get_within, stack_size, stack_top, start_is, start_memory, stretch, subst}
-use Rattle.sc_machine.proofs.Common.{sym, true, word_at, word_of, ℕ, ℤ, ⊎_elim, ◌%◌, ◌*◌, ◌+◌, ◌-◌, ◌/◌, ◌<◌, ◌∙◌, ◌≡◌}
-use Rattle.sc_machine.proofs.Common.{◌≢◌, ◌≤◌}
+use Rattle.sc_machine.proofs.Common.{Bool, CompPart, Filled, Goes, HasBytes, ImageParts, IsWellFormed, List}
+use Rattle.sc_machine.proofs.Common.{MachineState, None, OnSome, Option, Some, [], add-zero, add_word, and_parts, ap}
+use Rattle.sc_machine.proofs.Common.{ap₂, are_data, arith, byte_at, cases_lt, code_in, code_start, comp_of_data}
+use Rattle.sc_machine.proofs.Common.{data_end, data_regions, data_start, data_with, eq-eqb, execute, execute_by, false}
+use Rattle.sc_machine.proofs.Common.{gate, has_heap, if◌then◌else◌, initial_globals, is_in, is_some, le-leb, length}
+use Rattle.sc_machine.proofs.Common.{list_any, lt-leb, map, most_globals, nat_le, nat_lt, ne_eqb, on_return, refl, reg}
+use Rattle.sc_machine.proofs.Common.{slice_get, slice_get_cases, slice_get_within, slice_index, stack_size, stack_top}
+use Rattle.sc_machine.proofs.Common.{start_memory, stretch, subst, suc, sym, true, word_at, word_of, zero, zone_start}
+use Rattle.sc_machine.proofs.Common.{ℕ, ℤ, ⊎_elim, ◌%◌, ◌&&◌, ◌*◌, ◌+◌, ◌-◌, ◌/◌, ◌<◌, ◌||◌, ◌∙◌, ◌∷◌, ◌≡◌, ◌≢◌, ◌≤◌}
 use Rattle.sc_machine.specs.Place.{IsLookedUp, IsPlace}
-use Rattle.std.proofs.Common.{slice_get}
+use Rattle.sc_store.specs.declared.region.Region.{Region}
 use Rattle.rv_code.specs.declared.instr.Instr.TheVariants.{Jalr}
 use Rattle.std.proofs.lemmas.Bool.Decides.{nat_tests}
 
@@ -38,8 +38,8 @@ pub short_globals : (image : ImageParts) (c : ℕ) (comp : CompPart) → IsWellF
 short_globals image c comp well_formed found = (well_formed.comps c comp found).short_globals
 
 -- the same by what was looked up
-module _ {image : ImageParts} {c : ℕ} {words : List ℕ} {code_from data_from bytes : ℕ}
-    (looked : IsLookedUp image c words code_from data_from bytes) where
+module _ {image : ImageParts} {c : ℕ} {words : List ℕ} {code_from data_from bytes : ℕ} {zone : Bool}
+    (looked : IsLookedUp image c words code_from data_from bytes zone) where
   pub looked_code_below : (a : ℕ) → a % 4 ≡ 0 → a < code_from → word_at image c a ≡ None
   looked_code_below a e low = below_code image c a e (rw looked.code_from_is at low)
 
@@ -67,67 +67,214 @@ jalr_returns image inputs state rd rs1 imm sum is zero_is at =
 
 -- Which accesses are allowed, and that there is memory for them.
 
--- The owner's test.
+-- One address: in one of the regions of the compartment's data.
 
-pub below_data : (image : ImageParts) (c a size : ℕ) → 0 < size → a < data_start c → are_data image c a size ≡ false
-below_data image c a size some h = rw (range_of image c a size some, lt-leb _ a h) refl
+abbrev in_any : List Region → ℕ → Bool
+in_any regions x = list_any (λ region. is_in region x) regions
 
-moved_test : (a low n size : ℕ) → low ≤ a → size ≤ n → nat_le (a - low) (n - size) ≡ nat_le (a + size) (low + n)
-moved_test a low n size h k = grind (arith, nat_tests)
+-- where it lies, by where the stack, the globals and the zone begin and end
+abbrev in_two : (low top past x : ℕ) → Bool
+in_two low top past x = nat_le low x && nat_lt x top || (nat_le top x && nat_lt x past || false)
 
-pub from_data : (image : ImageParts) (c a size n : ℕ) → 0 < size → n ≡ length (initial_globals image c) → data_start c ≤
-    a →
-    size ≤ stack_size + n → nat_le (a - data_start c) (stack_size + n - size) ≡ are_data image c a size
-from_data image c a size n some is low few =
-    let top : data_start c + (stack_size + n) ≡ stack_top c + length (initial_globals image c) = omega arith in
-    rw (range_of image c a size some, le-leb _ a low) (moved_test a _ _ size low few ∙ ap (nat_le _) top)
+abbrev in_three : (low top past zone end x : ℕ) → Bool
+in_three low top past zone end x =
+    nat_le low x && nat_lt x top || (nat_le top x && nat_lt x past || (nat_le zone x && nat_lt x end || false))
+
+-- Some addresses one after another: without a zone they lie in one range, and with one in one of two ranges, or in both
+-- where there is nothing between these.
+
+abbrev in_range : (low past a size : ℕ) → Bool
+in_range low past a size = nat_le low a && nat_le (a + size) past
+
+abbrev in_ranges : (low past zone end a size : ℕ) → Bool
+in_ranges low past zone end a size =
+    nat_le low a && (nat_le (a + size) past || (nat_le zone a || nat_le zone past) && nat_le (a + size) end)
+
+range_one : (low top past x : ℕ) → low ≤ top → top ≤ past → in_two low top past x ≡ in_range low past x 1
+range_one low top past x h k = grind (arith, nat_tests)
+
+range_more : (low past a k : ℕ) → (in_range low past a (suc k) && in_range low past (a + suc k) 1) ≡
+    in_range low past a (suc (suc k))
+range_more low past a k = grind (arith, nat_tests)
+
+module _ (low top past zone end : ℕ) (first : low < top) (second : top ≤ past) (third : past ≤ zone)
+    (last : zone < end) where
+  ranges_one : (x : ℕ) → in_three low top past zone end x ≡ in_ranges low past zone end x 1
+  ranges_one x = grind (arith, nat_tests)
+
+  ranges_more : (a k : ℕ) → (in_ranges low past zone end a (suc k) && in_ranges low past zone end (a + suc k) 1) ≡
+      in_ranges low past zone end a (suc (suc k))
+  ranges_more a k = grind (arith, nat_tests)
+
+  -- and so between its bounds
+  three_bounds : (x : ℕ) → in_three low top past zone end x ≡ true → (low ≤ x) × (x < end)
+  three_bounds x h = (grind (arith, nat_tests), grind (arith, nat_tests))
+
+  two_bounds : (x : ℕ) → in_two low top past x ≡ true → (low ≤ x) × (x < end)
+  two_bounds x h = (grind (arith, nat_tests), grind (arith, nat_tests))
+
+module _ (image : ImageParts) (c : ℕ) where
+  abbrev past_globals : ℕ
+  past_globals = stack_top c + length (initial_globals image c)
+
+  regions_by : (heap : Bool) → has_heap image c ≡ heap → (x : ℕ) → in_any (data_regions image c) x ≡
+      in_any (map (λ (filled : Filled). filled.region) (data_with c (initial_globals image c) heap)) x
+  regions_by heap is x = ap (λ (h : Bool). in_any (map (λ (filled : Filled). filled.region)
+      (data_with c (initial_globals image c) h)) x) is
+
+  -- without a zone
+  plain : has_heap image c ≡ false → (a k : ℕ) →
+      are_data image c a (suc k) ≡ in_range (data_start c) past_globals a (suc k)
+  unfolding are_data
+  plain is a zero = ap (in_any (data_regions image c)) (add-zero a) ∙ regions_by false is a ∙
+      range_one (data_start c) (stack_top c) past_globals a (omega arith) (omega arith)
+  plain is a (suc k) = ap₂ (λ (x y : Bool). x && y) (plain is a k) (regions_by false is (a + suc k) ∙
+      range_one (data_start c) (stack_top c) past_globals (a + suc k) (omega arith) (omega arith)) ∙
+      range_more (data_start c) past_globals a k
+
+  -- with one
+  module _ (few : length (initial_globals image c) ≤ most_globals) (is : has_heap image c ≡ true) where
+    with_zone : (a k : ℕ) → are_data image c a (suc k) ≡
+        in_ranges (data_start c) past_globals (zone_start c) (data_end c) a (suc k)
+    unfolding are_data
+    with_zone a zero = ap (in_any (data_regions image c)) (add-zero a) ∙ regions_by true is a ∙
+        ranges_one (data_start c) (stack_top c) past_globals (zone_start c) (data_end c) (omega arith) (omega arith)
+        (omega (arith, few)) (omega arith) a
+    with_zone a (suc k) = ap₂ (λ (x y : Bool). x && y) (with_zone a k) (regions_by true is (a + suc k) ∙
+        ranges_one (data_start c) (stack_top c) past_globals (zone_start c) (data_end c) (omega arith) (omega arith)
+        (omega (arith, few)) (omega arith) (a + suc k)) ∙
+        ranges_more (data_start c) (stack_top c) past_globals (zone_start c) (data_end c) (omega arith) (omega arith)
+        (omega (arith, few)) (omega arith) a k
+
+  -- an address of the data lies in its stretch
+  bounds : length (initial_globals image c) ≤ most_globals → (x : ℕ) → in_any (data_regions image c) x ≡ true →
+      (data_start c ≤ x) × (x < data_end c)
+  bounds few x inside = by (has_heap image c) refl where
+    by : (heap : Bool) → has_heap image c ≡ heap → (data_start c ≤ x) × (x < data_end c)
+    by true is = three_bounds (data_start c) (stack_top c) past_globals (zone_start c) (data_end c) (omega arith)
+        (omega arith) (omega (arith, few)) (omega arith) x (sym (regions_by true is x) ∙ inside)
+    by false is = two_bounds (data_start c) (stack_top c) past_globals (zone_start c) (data_end c) (omega arith)
+        (omega arith) (omega (arith, few)) (omega arith) x (sym (regions_by false is x) ∙ inside)
 
 -- There is a byte at each of a compartment's addresses at the start.
 
-there_by : (offset : ℕ) (comp : CompPart) (in_stack : Bool) → nat_lt offset stack_size ≡ in_stack →
-    offset < stack_size + length comp.globals →
-    is_some (if in_stack then Some 0 else slice_get comp.globals (offset - stack_size)) ≡ true
-there_by offset comp true is h = refl
-there_by offset comp false is h = ⊎_elim (λ found. rw found.2 refl)
-    (λ none. absurd (let from : stack_size ≤ offset = grind (arith, nat_tests) in omega (arith, none.0)))
-    (slice_get_cases comp.globals (offset - stack_size)).1
+some_at : (all : List Filled) (x : ℕ) →
+    is_some (byte_at all x) ≡ in_any (map (λ (filled : Filled). filled.region) all) x
+some_at [] x = refl
+some_at (filled ∷ others) x = by (is_in filled.region x) (some_at others x) where
+  by : (inside : Bool) → is_some (byte_at others x) ≡ in_any (map (λ (other : Filled). other.region) others) x →
+      is_some (if inside then Some (slice_index filled.bytes (x - filled.region.start)) else byte_at others x) ≡
+      (inside || in_any (map (λ (other : Filled). other.region) others) x)
+  by true rest = refl
+  by false rest = rest
 
-start_there : (image : ImageParts) (c a : ℕ) (comp : CompPart) → slice_get image.comps c ≡ Some comp →
-    length comp.globals ≤ most_globals →
-    data_start c ≤ a → a < stack_top c + length comp.globals → is_some (start_memory image a) ≡ true
-start_there image c a comp found few low high =
-    let above : nat_lt a (data_start 0) ≡ false = le-ltb a _ (omega arith) in
-    let number : comp_of_data a ≡ c = omega arith in
-    let offset : (a - data_start 0) % stretch ≡ a - data_start c = omega arith in
-    ap is_some (start_is a image) ∙ rw (above, number, found, offset)
-    (there_by (a - data_start c) comp (nat_lt _ _) refl (omega arith))
+start_there : (image : ImageParts) (c x : ℕ) (comp : CompPart) → slice_get image.comps c ≡ Some comp →
+    length (initial_globals image c) ≤ most_globals → in_any (data_regions image c) x ≡ true →
+    is_some (start_memory image x) ≡ true
+unfolding start_memory
+start_there image c x comp found few inside =
+    let bound = bounds image c few x inside in
+    let number : comp_of_data x ≡ c = omega (arith, bound) in
+    let all = data_with c comp.globals comp.heap in
+    let same : data_regions image c ≡ map (λ (filled : Filled). filled.region) all = rw found refl in
+    rw (number, found) (some_at all x ∙ sym (ap (λ regions. in_any regions x) same) ∙ inside)
 
-found_there : (image : ImageParts) (c a size : ℕ) (comp : CompPart) → slice_get image.comps c ≡ Some comp →
-    length comp.globals ≤ most_globals → are_data image c a size ≡ true → HasBytes (start_memory image) a size
-found_there image c a size comp found few h = λ k below.
-    let same : initial_globals image c ≡ comp.globals = rw found refl in
-    let bounds = data_bounds image c a size (omega (arith, below)) h in
-    let high = subst (λ globals. a + size ≤ stack_top c + length globals) same bounds.1 in
-    start_there image c _ comp found few (omega (arith, bounds.0)) (omega (arith, high, below))
+-- each byte of an access that is the compartment's
+one_of : (image : ImageParts) (c a size k : ℕ) → are_data image c a size ≡ true → k < size →
+    in_any (data_regions image c) (a + k) ≡ true
+unfolding are_data
+one_of image c a zero k all within = absurd (omega (arith, within))
+one_of image c a (suc size) k all within =
+    let parts = and_parts (are_data image c a size) _ all in
+    ⊎_elim (λ low. one_of image c a size k parts.0 low)
+    (λ past. let last : k ≡ size = omega (arith, past, within) in
+    subst (λ j. in_any (data_regions image c) (a + j) ≡ true) (sym last) parts.1) (cases_lt k size)
+
+few_globals : (image : ImageParts) (c : ℕ) → IsPlace image c → length (initial_globals image c) ≤ most_globals
+few_globals image c place =
+    ⊎_elim (λ found. rw found.2 (place.formed.comps c found.0 found.2).short_globals)
+    (λ none. absurd (omega (arith, none.0, place.within))) (slice_get_cases image.comps c).1
 
 pub data_there : (image : ImageParts) (c a size : ℕ) → IsPlace image c → are_data image c a size ≡ true →
     HasBytes (start_memory image) a size
-data_there image c a size place h =
-    ⊎_elim (λ found. found_there image c a size found.0 found.2 (place.formed.comps c found.0 found.2).short_globals h)
-    (λ none. absurd (omega (arith, none.0, place.within))) (slice_get_cases _ c).1
+data_there image c a size place h k below =
+    ⊎_elim (λ found. start_there image c (a + k) found.0 found.2 (few_globals image c place)
+    (one_of image c a size k h below))
+    (λ none. absurd (omega (arith, none.0, place.within))) (slice_get_cases image.comps c).1
 
--- the same by what was looked up
-module _ {image : ImageParts} {c : ℕ} {words : List ℕ} {code_from data_from bytes : ℕ}
-    (looked : IsLookedUp image c words code_from data_from bytes) where
+-- The owner's test, by what was looked up.
+
+not_below : (low a : ℕ) (rest : Bool) → a < low → (nat_le low a && rest) ≡ false
+not_below low a rest h = rw (lt-leb low a h) refl
+
+near_range : (low past a size : ℕ) → low ≤ a → a + size ≤ past → in_range low past a size ≡ true
+near_range low past a size h k = grind (arith, nat_tests)
+
+near_ranges : (low past zone end a size : ℕ) → low ≤ a → a + size ≤ past → in_ranges low past zone end a size ≡ true
+near_ranges low past zone end a size h k = grind (arith, nat_tests)
+
+far_range : (low past a size : ℕ) → past < a + size → in_range low past a size ≡ false
+far_range low past a size h = grind (arith, nat_tests)
+
+-- beyond the globals, by where the data begin and where the zone does
+into_zone : (low bytes past end offset size : ℕ) → past ≡ low + bytes → end ≡ low + 0xC0000 → offset < 0x80000 →
+    size ≤ 4 → bytes < offset + size → nat_le 0x80000 bytes ≡ in_ranges low past (low + 0x80000) end (low + offset) size
+into_zone low bytes past end offset size is ends below few beyond = grind (arith, nat_tests)
+
+inside_zone : (low bytes past end offset size : ℕ) → past ≡ low + bytes → end ≡ low + 0xC0000 → 0x80000 ≤ offset →
+    size ≤ 4 → bytes < offset + size →
+    nat_le offset (0xC0000 - size) ≡ in_ranges low past (low + 0x80000) end (low + offset) size
+inside_zone low bytes past end offset size is ends above few beyond = grind (arith, nat_tests)
+
+module _ {image : ImageParts} {c : ℕ} {words : List ℕ} {code_from data_from bytes : ℕ} {zone : Bool}
+    (looked : IsLookedUp image c words code_from data_from bytes zone) where
+  few : length (initial_globals image c) ≤ most_globals
+  few = omega (arith, looked.bytes_are, looked.few_bytes)
+
   pub looked_below : (a size : ℕ) → 0 < size → a < data_from → are_data image c a size ≡ false
-  looked_below a size some low = below_data image c a size some (rw looked.data_from_is at low)
+  looked_below a zero some low = absurd (omega (arith, some))
+  looked_below a (suc k) some low = by (has_heap image c) refl where
+    by : (heap : Bool) → has_heap image c ≡ heap → are_data image c a (suc k) ≡ false
+    by true is = with_zone image c few is a k ∙ not_below (data_start c) a _ (rw looked.data_from_is at low)
+    by false is = plain image c is a k ∙ not_below (data_start c) a _ (rw looked.data_from_is at low)
 
-  pub looked_data : (a size : ℕ) → 0 < size → data_from ≤ a → size ≤ 4 →
-      nat_le (a - data_from) (bytes - size) ≡ are_data image c a size
-  looked_data a size some low few = rw (looked.data_from_is, looked.bytes_are)
-      (from_data image c a size _ some refl (rw looked.data_from_is at low) (omega arith))
+  -- within the stack and the globals
+  pub looked_near : (a size : ℕ) → 0 < size → size ≤ 4 → data_from ≤ a → a - data_from ≤ bytes - size →
+      are_data image c a size ≡ true
+  looked_near a zero some small low near = absurd (omega (arith, some))
+  looked_near a (suc k) some small low near = by (has_heap image c) refl where
+    upto : a + suc k ≤ past_globals image c
+    upto = omega (arith, looked.data_from_is, looked.bytes_are, small, low, near)
 
-  pub looked_there : (a size : ℕ) → 0 < size → IsPlace image c → data_from ≤ a → size ≤ 4 →
-      nat_le (a - data_from) (bytes - size) ≡ true → HasBytes (start_memory image) a size
-  looked_there a size some place low few test = data_there image c a size place
-      (sym (looked_data a size some low few) ∙ test)
+    by : (heap : Bool) → has_heap image c ≡ heap → are_data image c a (suc k) ≡ true
+    by true is = with_zone image c few is a k ∙ near_ranges (data_start c) (past_globals image c) (zone_start c)
+        (data_end c) a (suc k) (rw looked.data_from_is at low) upto
+    by false is = plain image c is a k ∙ near_range (data_start c) (past_globals image c) a (suc k)
+        (rw looked.data_from_is at low) upto
+
+  -- beyond them, where there is no zone
+  pub looked_far : (a size : ℕ) → 0 < size → size ≤ 4 → bytes - size < a - data_from → zone ≡ false →
+      are_data image c a size ≡ false
+  looked_far a zero some small far none = absurd (omega (arith, some))
+  looked_far a (suc k) some small far none = plain image c (sym looked.zone_is ∙ none) a k ∙
+      far_range (data_start c) (past_globals image c) a (suc k)
+      (omega (arith, looked.data_from_is, looked.bytes_are, small, far))
+
+  -- and where there is one: half in it, or in it
+  pub looked_into : (offset size : ℕ) → 0 < size → size ≤ 4 → has_heap image c ≡ true →
+      stack_size + length (initial_globals image c) < offset + size → offset < 0x80000 →
+      nat_le 0x80000 bytes ≡ are_data image c (data_start c + offset) size
+  looked_into offset zero some small heap beyond below = absurd (omega (arith, some))
+  looked_into offset (suc k) some small heap beyond below =
+      into_zone (data_start c) bytes (past_globals image c) (data_end c) offset (suc k)
+      (omega (arith, looked.bytes_are)) (omega arith) below small (omega (arith, looked.bytes_are, beyond)) ∙
+      sym (with_zone image c few heap (data_start c + offset) k)
+
+  pub looked_inside : (offset size : ℕ) → 0 < size → size ≤ 4 → has_heap image c ≡ true →
+      stack_size + length (initial_globals image c) < offset + size → 0x80000 ≤ offset →
+      nat_le offset (0xC0000 - size) ≡ are_data image c (data_start c + offset) size
+  looked_inside offset zero some small heap beyond above = absurd (omega (arith, some))
+  looked_inside offset (suc k) some small heap beyond above =
+      inside_zone (data_start c) bytes (past_globals image c) (data_end c) offset (suc k)
+      (omega (arith, looked.bytes_are)) (omega arith) above small (omega (arith, looked.bytes_are, beyond)) ∙
+      sym (with_zone image c few heap (data_start c + offset) k)

@@ -1,6 +1,6 @@
 -- Helping: what instructions change, as the state that it stands for.
 use Rattle.sc_machine.specs.Common.{Goes, ImageParts, ByteMemory, Outcome, MachineState, Traps, start_memory, written}
-use Rattle.std.specs.Prelude.{◌≡◌, ◌+◌, ◌<◌, ◌≤◌, ℕ, All, length, is_some, vec_capacity, Result, Ok, Err, OnErr}
+use Rattle.std.specs.Prelude.{◌≡◌, ◌+◌, ◌<◌, ◌≤◌, ℕ, All, length, is_some, map, vec_capacity, Result, Ok, Err, OnErr}
 use Rattle.sc_base.specs.declared.stop.TrapReason.{TrapReason}
 use Rattle.sc_machine.specs.declared.hart.Core.{Core}
 use Rattle.sc_machine.specs.declared.hart.Hart.{Hart}
@@ -28,6 +28,7 @@ state_in memory hart = record {
   pc = hart.core.pc;
   active = hart.active;
   saved = hart.saved.items;
+  zones = hart.zones.blocks;
   memory = memory;
   cross = hart.cross.calls;
   input = hart.input;
@@ -50,12 +51,13 @@ linked core rd target = record { registers = written core.registers rd (core.pc 
 abbrev pub advanced : Core → Core
 advanced core = record { registers = core.registers; pc = core.pc + 4 }
 
--- the active compartment and those that wait are the image's, each of its compartments has a saved sp, and each input
--- that was read is in the trace
+-- the active compartment and those that wait are the image's, each of its compartments has a saved sp, those with a
+-- heap have a zone, and each input that was read is in the trace
 pub record IsSound (image : ImageParts) (hart : Hart) : Type 0 where
   pub place : IsPlace image hart.active
   pub callers : All (λ call. call.caller < length image.comps) hart.cross.calls
   pub saved : length hart.saved.items ≡ length image.comps
+  pub zones : hart.zones.there ≡ map (λ comp. comp.heap) image.comps
   pub input : hart.input ≤ length hart.trace.items
 
 -- there is room for a trace of `events` events, and for as many calls as it may still get

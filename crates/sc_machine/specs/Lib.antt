@@ -1,6 +1,7 @@
 pub mod Common
 pub mod Prelude
 pub mod Place
+pub mod Zoned
 pub mod Progress
 pub mod Hart
 pub mod Passing

@@ -7,7 +7,7 @@ pub use Rattle.sc_image.specs.Prelude.{Goes, IsWellFormed, Outcome, MachineRun, 
 pub use Rattle.sc_image.specs.Prelude.{on_call, jump_outside}
 pub use Rattle.sc_image.specs.Prelude.{code_in, comp_of_code, compares, op_result, continued, data_of, environment_call}
 pub use Rattle.sc_image.specs.Prelude.{execute, entered_export, export_called, exported_by, extended, initial_globals}
-pub use Rattle.sc_image.specs.Prelude.{has_result}
+pub use Rattle.sc_image.specs.Prelude.{a1, frees, has_heap, has_result, on_alloc, zone_address, zone_start}
 pub use Rattle.sc_image.specs.Prelude.{imported_by, on_input, input_at, is_ended, jump, load, load_size, machine}
 pub use Rattle.sc_image.specs.Prelude.{may_call_export}
 pub use Rattle.sc_image.specs.Prelude.{may_input, may_output, most_globals, next, on_registers, on_output}

@@ -2,6 +2,7 @@
 use Rattle.sc_machine.specs.Common.{Crossing, ImageParts, ByteMemory, MachineRun, MachineState}
 use Rattle.std.specs.Prelude.{ℕ, List}
 use Rattle.sc_event.specs.declared.event.Event.{Event}
+use Rattle.sc_zone.specs.declared.span.Span.{Span}
 use Rattle.sc_base.specs.declared.stop.Stop.{Stop}
 
 -- what a machine was loaded with, and how far its run is
@@ -15,6 +16,8 @@ pub record Progress (S : Type 0) : Type 0 where
   pub active : ℕ
   -- of each compartment, the sp that it gets at its next call
   pub saved : List ℕ
+  -- of each compartment, the live blocks of its zone
+  pub zones : List (List Span)
   -- the calls of other compartments that haven't returned, the latest first
   pub cross : List Crossing
   -- how many inputs were read
@@ -32,6 +35,7 @@ state_of bytes machine = record {
   pc = machine.pc;
   active = machine.active;
   saved = machine.saved;
+  zones = machine.zones;
   memory = bytes machine.store;
   cross = machine.cross;
   input = machine.input;

@@ -12,7 +12,7 @@ HasFewGlobals comp = length comp.globals ≤ most_globals
 -- the data of the compartments from number c on
 abbrev pub all_data : ℕ → List CompPart → List Filled
 all_data c [] = []
-all_data c (comp ∷ comps) = data_with c comp.globals ++ all_data (suc c) comps
+all_data c (comp ∷ comps) = data_with c comp.globals comp.heap ++ all_data (suc c) comps
 
 abbrev pub regions_of : List Filled → List Region
 regions_of all = map (λ filled. filled.region) all

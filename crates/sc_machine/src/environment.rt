@@ -2,16 +2,17 @@
 #![tactic(auto, unfolding(sc_image::specs::Step::execute_by))]
 
 ghost use Rattle.sc_machine.specs.Prelude.{Goes, IsReady, LeavesSound, ByteMemory, StaysSound, environment_call};
-ghost use Rattle.sc_machine.specs.Prelude.{on_input};
-ghost use Rattle.sc_machine.specs.Prelude.{input_at, may_input, may_output, next, outcome_of, on_output, state_in};
+ghost use Rattle.sc_machine.specs.Prelude.{input_at, may_input, may_output, next, on_input, on_output};
+ghost use Rattle.sc_machine.specs.Prelude.{outcome_of, state_in};
 ghost use Rattle.sc_machine.specs.Prelude.{word_of};
 ghost use Rattle.std.specs.Prelude.{◌≡◌, ◌+◌, ◌^◌, ◌<◌, map, OnErr};
 
 use crate::hart::Hart;
+use crate::heap::{alloc, free};
 use crate::here::Here;
 use sc_base::TrapReason;
 use sc_event::Event;
-use sc_image::layout::{A0, A7, INPUT, OUTPUT};
+use sc_image::layout::{A0, A7, ALLOC, FREE, INPUT, OUTPUT};
 
 #[inline(never)]
 pub(crate) fn environment_call(
@@ -35,6 +36,12 @@ pub(crate) fn environment_call(
             Ok(())
         }
         INPUT | OUTPUT => Err(TrapReason::NoImport),
+        _ if !here.has_zone() => Err(TrapReason::BadCall),
+        ALLOC => {
+            alloc(here, hart);
+            Ok(())
+        }
+        FREE => free(here, hart),
         _ => Err(TrapReason::BadCall),
     }
 }

@@ -4,6 +4,7 @@
 ghost use Rattle.sc_machine.specs.Prelude.{IsReg, add_word, advanced, linked, word_of, written, written_at_next};
 ghost use Rattle.std.specs.Prelude.{◌≡◌, ◌+◌, ◌^◌, ◌<◌, ◌≤◌, ◌++◌, ◌∷◌, [], length, slice_index, vec_capacity};
 
+use crate::zones::Zones;
 use rv_code::{Immediate, Reg};
 use sc_event::{CompId, Event};
 use sc_gate::CrossStack;
@@ -86,6 +87,7 @@ pub(crate) struct Hart {
     pub active: CompId,
     /// Of each compartment, the sp that it gets at its next call.
     pub saved: Vec<u32>,
+    pub zones: Zones,
     /// The calls of other compartments that haven't returned.
     pub cross: CrossStack,
     /// How many inputs were read.
@@ -102,6 +104,7 @@ impl Hart {
         ensures core { self.new.core ≡ self.old.core }
         ensures active { self.new.active ≡ self.old.active }
         ensures saved { self.new.saved ≡ self.old.saved }
+        ensures zones { self.new.zones ≡ self.old.zones }
         ensures cross { self.new.cross ≡ self.old.cross }
         ensures input { self.new.input ≡ self.old.input }
     {

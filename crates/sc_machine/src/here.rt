@@ -4,7 +4,8 @@
 
 ghost use Rattle.std.specs.List.{HoldsAt};
 ghost use Rattle.std.specs.Prelude.{IfSome, ◌≡◌, ◌+◌, ◌*◌, ◌^◌, ◌<◌, ◌≤◌, length, OnSome, IsTrue};
-ghost use Rattle.sc_image.specs.Layout.{stretch, most_globals, code_in, initial_globals, word_at, are_data};
+ghost use Rattle.sc_image.specs.Layout.{are_data, code_in, data_start, has_heap, initial_globals, most_globals};
+ghost use Rattle.sc_image.specs.Layout.{stack_size, stretch, word_at};
 ghost use Rattle.sc_store.specs.Memory.{HasBytes};
 ghost use Rattle.sc_image.specs.State.{start_memory};
 ghost use Rattle.sc_machine.specs.Place.{IsPlace};
@@ -14,7 +15,7 @@ use crate::calling::Callee;
 use crate::program::Program;
 use sc_event::CompId;
 use sc_image::Image;
-use sc_image::layout::{STACK_SIZE, code_start, data_start};
+use sc_image::layout::{STACK_SIZE, ZONE, ZONE_SIZE, code_start, data_start};
 use sc_store::Store;
 use sqlite_items::at;
 use std::marker::Model;
@@ -29,6 +30,7 @@ pub(crate) struct Here<'a> {
     code_from: u32,
     data_from: u32,
     data_bytes: u32,
+    has_zone: bool,
     callees: &'a [Callee],
 }
 
@@ -42,7 +44,8 @@ impl<'a> Model for Here<'a> {
     ghost view = { λ h. record { image = h.program.now; comp = h.comp } };
 
     ghost invariant = { λ h. IsPlace h.program.now h.comp ×
-        IsLookedUp h.program.now h.comp h.code.now h.code_from h.data_from h.data_bytes ×
+        IsLookedUp h.program.now h.comp h.code.now h.code_from h.data_from h.data_bytes
+        h.has_zone ×
         All (IsCallee h.program.now h.comp) h.callees.now };
 }
 
@@ -64,6 +67,7 @@ impl<'a> Here<'a> {
             code_from: code_start(comp),
             data_from: data_start(comp),
             data_bytes: STACK_SIZE + globals.len() as u32,
+            has_zone: has_heap(image, comp),
             callees: program.callees(comp),
         }
     }
@@ -80,6 +84,13 @@ impl<'a> Here<'a> {
         ensures { result ≡ self.now.comp }
     {
         self.comp
+    }
+
+    /// Whether it has a heap, and so a zone.
+    pub fn has_zone(&self) -> bool
+        ensures { result ≡ has_heap self.now.image self.now.comp }
+    {
+        self.has_zone
     }
 
     /// Goes over to the compartment that runs now, with the memory focused on its data. It is looked
@@ -123,8 +134,7 @@ impl<'a> Here<'a> {
         Some(&self.callees[place])
     }
 
-    /// Whether the `size` bytes from an address on all lie in the compartment's stack and globals.
-    #[tactic(auto, using(crate::proofs::Words::looked_data, crate::proofs::Words::looked_there))]
+    /// Whether the `size` bytes from an address on all lie in the compartment's stack, globals and zone.
     pub fn are_data(&self, address: u32, size: u32) -> bool
         requires some { 0 < size }
         requires few { size ≤ 4 }
@@ -134,7 +144,30 @@ impl<'a> Here<'a> {
         if address < self.data_from {
             return false;
         }
-        address - self.data_from <= self.data_bytes - size
+        let offset = address - self.data_from;
+        if offset <= self.data_bytes - size {
+            return true;
+        }
+        if !self.has_zone {
+            return false;
+        }
+        self.are_in_zone(offset, size)
+    }
+
+    /// Whether the `size` bytes at an offset in the compartment's data, which reach beyond its globals, all lie in its
+    /// zone, or in its globals and its zone where there is nothing between them.
+    #[inline(never)]
+    fn are_in_zone(&self, offset: u32, size: u32) -> bool
+        requires some { 0 < size }
+        requires few { size ≤ 4 }
+        requires heap { IsTrue (has_heap self.now.image self.now.comp) }
+        requires beyond { stack_size + length (initial_globals self.now.image self.now.comp) < offset + size }
+        ensures { result ≡ are_data self.now.image self.now.comp (data_start self.now.comp + offset) size }
+    {
+        if offset < ZONE {
+            return self.data_bytes >= ZONE;
+        }
+        offset <= ZONE + ZONE_SIZE - size
     }
 }
 
@@ -158,6 +191,16 @@ fn code(image: &Image, comp: CompId) -> &[u32]
     match image.parts().comps.get(comp.number() as usize) {
         Some(part) => part.code.as_slice(),
         None => &[],
+    }
+}
+
+/// Whether the compartment has a heap.
+fn has_heap(image: &Image, comp: CompId) -> bool
+    ensures { result ≡ has_heap image.now comp }
+{
+    match image.parts().comps.get(comp.number() as usize) {
+        Some(part) => part.heap,
+        None => false,
     }
 }
 

@@ -7,6 +7,7 @@ mod calling;
 mod environment;
 mod execute;
 mod hart;
+mod heap;
 mod here;
 mod jump;
 mod loading;
@@ -17,6 +18,7 @@ mod program;
 mod quick;
 mod returning;
 mod run;
+mod zones;
 
 pub use machine::{LoadFault, Machine};
 pub use own_view::OwnView;

@@ -5,13 +5,18 @@ ghost use Rattle.sc_base.specs.Prelude.{most_compartments};
 ghost use Rattle.sc_machine.specs.Prelude.{HasBytes, HasRoom, IsSound, stack_tops, start, start_memory, state_in};
 ghost use Rattle.sc_machine.specs.Prelude.{zeros};
 ghost use Rattle.sc_store.specs.Prelude.{written};
-ghost use Rattle.std.specs.Prelude.{◌≡◌, ◌+◌, ◌<◌, ◌^◌, ◌≤◌, length, vec_capacity, All, IfOk};
+ghost use Rattle.std.specs.Prelude.{◌≡◌, ◌+◌, ◌<◌, ◌^◌, ◌≤◌, ◌++◌, length, vec_capacity, All, IfOk, OnOk};
+ghost use Rattle.sc_image.specs.Prelude.{data_with};
 ghost use Rattle.sc_machine.specs.Regions.{HasFewGlobals, all_data, regions_of, filled_with};
 
 use crate::hart::{Core, Hart};
+use crate::zones::Zones;
 use sc_base::OutOfMemory;
+use sc_event::CompId;
 use sc_gate::CrossStack;
-use sc_image::layout::{GATE, RA, SP, STACK_SIZE, comp_id, data_start, stack_top};
+use sc_image::layout::{
+    GATE, RA, SP, STACK_SIZE, ZONE_SIZE, comp_id, data_start, stack_top, zone_start,
+};
 use sc_image::{CompPart, Image};
 use sc_store::{Region, Store};
 use std::alloc::{AllocError, Global};
@@ -23,6 +28,7 @@ pub(crate) fn start(alloc: Global, image: &Image, events: u32) -> Result<Hart, O
     ensures room { IfOk result (HasRoom events) }
 {
     let parts = image.parts();
+    let comps = parts.comps.as_slice();
     let Ok(cross) = CrossStack::with_room(alloc, events) else {
         return Err(OutOfMemory);
     };
@@ -35,7 +41,8 @@ pub(crate) fn start(alloc: Global, image: &Image, events: u32) -> Result<Hart, O
             pc: parts.entry,
         },
         active: parts.main,
-        saved: stack_tops(alloc, parts.comps.as_slice())?,
+        saved: stack_tops(alloc, comps)?,
+        zones: Zones::new(alloc, comps)?,
         cross,
         input: 0,
         trace: Vec::with_capacity(alloc, events as usize)?,
@@ -55,7 +62,7 @@ fn stack_tops(alloc: Global, comps: &[CompPart]) -> Result<Vec<u32>, AllocError>
     Ok(tops)
 }
 
-/// Stacks of zeros, and globals with the image's bytes.
+/// Stacks and zones of zeros, and globals with the image's bytes.
 pub(crate) fn start_memory<S: Store>(alloc: Global, image: &Image) -> Result<S, OutOfMemory>
     ensures { IfOk result (λ memory. S.bytes memory ≡ start_memory image.now) }
 {
@@ -66,8 +73,7 @@ pub(crate) fn start_memory<S: Store>(alloc: Global, image: &Image) -> Result<S, 
     Ok(memory)
 }
 
-/// The regions of each compartment's data: its stack and its globals.
-#[tactic(auto, using(crate::proofs::Start::next_regions))]
+/// The regions of each compartment's data.
 fn regions(alloc: Global, comps: &[CompPart]) -> Result<Vec<Region>, AllocError>
     requires count { length comps.now ≤ most_compartments }
     requires few { All HasFewGlobals comps.now }
@@ -75,19 +81,36 @@ fn regions(alloc: Global, comps: &[CompPart]) -> Result<Vec<Region>, AllocError>
 {
     let mut regions = Vec::new(alloc);
     for (number, comp) in comps.iter().enumerate() {
-        regions.push(Region {
-            start: data_start(comp_id(number)),
-            bytes: STACK_SIZE,
-        })?;
-        regions.push(Region {
-            start: stack_top(comp_id(number)),
-            bytes: comp.globals.as_bytes().len() as u32,
-        })?;
+        add_data(&mut regions, comp_id(number), comp)?;
     }
     Ok(regions)
 }
 
-/// Puts the bytes that each compartment's data begin with: its globals, since a stack begins with none.
+/// Adds the regions of the compartment's data: its stack, its globals, and its zone if it has a heap.
+fn add_data(regions: &mut Vec<Region>, number: CompId, comp: &CompPart) -> Result<(), AllocError>
+    requires { HasFewGlobals comp.now }
+    ensures { OnOk result (regions.new.items ≡ regions.old.items ++
+        regions_of (data_with number comp.now.globals comp.now.heap)) }
+{
+    regions.push(Region {
+        start: data_start(number),
+        bytes: STACK_SIZE,
+    })?;
+    regions.push(Region {
+        start: stack_top(number),
+        bytes: comp.globals.as_bytes().len() as u32,
+    })?;
+    if comp.heap {
+        regions.push(Region {
+            start: zone_start(number),
+            bytes: ZONE_SIZE,
+        })?;
+    }
+    Ok(())
+}
+
+/// Puts the bytes that each compartment's data begin with: its globals, since a stack and a zone
+/// begin with none.
 fn fill_all<S: Store>(memory: &mut S, comps: &[CompPart])
     requires count { length comps.now ≤ most_compartments }
     requires few { All HasFewGlobals comps.now }

@@ -16,6 +16,7 @@ returns-clause-stays c =
         callers = rw c.emit-2.ensures.cross (All-tail waits latest c.ret.new.self.calls all);
         saved = length-set c.emit-2.new.self.saved.items c.number.result c.in-Some.call.saved ∙
             rw c.emit-2.ensures.saved c.requires.ready.sound.saved;
+        zones = rw c.emit-2.ensures.zones c.requires.ready.sound.zones;
         input = rw (c.emit-2.ensures.input, c.emit-2.ensures.trace)
             (simp length-append (omega (arith, c.requires.ready.sound.input)));
       };
