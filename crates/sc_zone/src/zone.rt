@@ -55,13 +55,6 @@ impl Zone {
         })
     }
 
-    /// The blocks, in the order of their places.
-    pub fn spans(&self) -> &[Span]
-        ensures { result.now ≡ self.now }
-    {
-        self.spans.as_slice()
-    }
-
     // Where a search for this many words begins.
     fn first_gap(&self, words: u32) -> Gap
         ensures { AreNarrow words 0 result.next self.now result.place }
