@@ -23,3 +23,6 @@ returns-clause-ok c =
     (c.in_ok-source.ensures.accepted.0 ∙ take_rest c.args.bytes.now c.in_ok-read.read.rest)
     c.in_ok-explanation.ensures.explained (subst IsWellTyped c.program.ensures.program c.tree-tree.ensures.typed)
     c.in_ok-explanation.ensures.allowed c.requires.short c.in_ok-verdict.ensures
+
+pub returns-in_err-verdict-clause-cause : goal.returns-in_err-verdict-clause-cause
+returns-in_err-verdict-clause-cause c = search (rules, c.from_residual-in_err-verdict.ensures)
