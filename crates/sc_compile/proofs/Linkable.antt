@@ -12,9 +12,8 @@ use Rattle.sc_compile.proofs.Common.{same_Some, section_at, section_or_none, sli
 use Rattle.sc_compile.proofs.Common.{stretch, subst, suc, sym, too_large, total, true, ℕ, ◌*◌, ◌+◌, ◌<◌, ◌∙◌, ◌∷◌, ◌≡◌}
 use Rattle.sc_compile.proofs.Common.{◌≤◌, ◌⊎◌}
 use Rattle.sc_tac.specs.declared.stmt.TacStmt.TheOpen as tac
-use Rattle.sc_emit.proofs.Passing.{AllPass, PassesHere, Test, passes}
+use Rattle.sc_emit.proofs.Passing.{AllPass, PassesHere, Test, implied_everywhere, passes}
 use Rattle.sc_linker.proofs.Codes.{codes_none}
-use Rattle.sc_emit_run_laws.proofs.Placing.{implied_everywhere}
 use Rattle.sc_emit_run_laws.proofs.Sections.{InSection, in_functions, its_section}
 use Rattle.sc_compile.proofs.Codes.{codes_are, one_for_each}
 use Rattle.sc_compile.proofs.Fitting.{code_fits, data_fits}
@@ -75,6 +74,8 @@ module _ (program : TacTree) (comp : ℕ) (section : TacSection) where
       export_there (export_at program.interfaces to index) dest (length args) h.1.1.0
   names_here (tac.Input dest) h = refl
   names_here (tac.Output value) h = refl
+  names_here (tac.Alloc dest count words) h = refl
+  names_here (tac.Free pointer) h = refl
   names_here (tac.Return value) h = refl
 
   pub names_all : (stmts : List TacStmt) → AllPass rules_of stmts →

@@ -134,6 +134,7 @@ module _ (program : ProgramTree) (typed : IsWellTyped program) where
           emitted = done;
           stands = code_at image comp ((addresses comp).function number) _
               (functions.code comp number (function_code f) (code_there program comp number f its));
+          heap = functions.heap comp number (function_code f) (code_there program comp number f its);
           paid = omega (arith, done.short, its_nodes comp number f its);
         }
 

@@ -2,12 +2,16 @@
 -- lemma `match_` is of one combinator, and together they prove that denotations obey.
 use Rattle.sc_core_laws.proofs.Common.{Alike, Asks, Blames, Blocks, Bool, CallTarget, Calls, Cause, Does, Doing, Each}
 use Rattle.sc_core_laws.proofs.Common.{Err, Exit, Gives, GoFrom, Goes, Gone, Grown, Halts, Here, InteractionTree, Lasts}
-use Rattle.sc_core_laws.proofs.Common.{Left, List, Match, Next, Ok, On, Piece, Plays, Reached, Reads, Result, Route}
-use Rattle.sc_core_laws.proofs.Common.{Spends, State, Stores, Value, [], all_do, and_then, ap, arith, computed, false}
-use Rattle.sc_core_laws.proofs.Common.{follow, if◌then◌else◌, in_loop, in_order, inl, inr, leave, loop, map, played}
-use Rattle.sc_core_laws.proofs.Common.{refl, rounds, store, stored, subst, suc, sym, take, true, turn, turn_of}
-use Rattle.sc_core_laws.proofs.Common.{with_memory, zero, ℕ, ◌<◌, ◌∙◌, ◌∷◌, ◌≡◌, ◌≤◌}
-use Rattle.sc_core.specs.Prelude.{Out}
+use Rattle.sc_core_laws.proofs.Common.{Left, List, Match, Next, None, Ok, On, Option, Piece, Plays, Reached, Reads}
+use Rattle.sc_core_laws.proofs.Common.{Result, Route, Some, Spends, State, Stores, Value, [], all_do, and_then, ap}
+use Rattle.sc_core_laws.proofs.Common.{arith, computed, false, follow, if◌then◌else◌, in_loop, in_order, inl, inr}
+use Rattle.sc_core_laws.proofs.Common.{leave, length, loop, map, played, refl, rounds, store, stored, subst, suc, sym}
+use Rattle.sc_core_laws.proofs.Common.{take, true, turn, turn_of, with_memory, zero, ℕ, ◌*◌, ◌++◌, ◌<◌, ◌∙◌, ◌∷◌}
+use Rattle.sc_core_laws.proofs.Common.{◌≡◌, ◌≤◌}
+use Rattle.sc_core.specs.Prelude.{Out, allocated, allocated_at, count_in, elements_allocated, freed, placed, released}
+use Rattle.sc_core.specs.Prelude.{spans_of}
+use Rattle.sc_core.specs.declared.value.Value.TheVariants.{Null, Ptr}
+use Rattle.sc_zone.specs.Prelude.{least_free}
 use Rattle.sc_core_laws.proofs.Growing.{same, stays, no_turn, earlier, then_goes, turn_goes, then_then}
 use Rattle.sc_core_laws.proofs.Expressions.{Keeps, alike, blamed}
 
@@ -173,6 +177,30 @@ pub plays_stored : {V : Type 0} (here : Here) (v : V) (blocks : Blocks) →
 plays_stored {V} here v blocks =
     record { lasts = from_one (λ n. Lasts n (Stores blocks (Gives v))) tt (λ n. tt); is = λ n by goes s few. refl }
 
+-- a new block where the zone has a place for it
+abbrev pub placed_tree : Blocks → (words : ℕ) → Option ℕ → InteractionTree Value
+placed_tree blocks words None = Gives Null
+placed_tree blocks words (Some place) =
+    Stores (blocks ++ allocated_at place words ∷ []) (Gives (Ptr (record { block = length blocks; index = 0 })))
+
+abbrev pub allocated_tree : (words : ℕ) → InteractionTree Value
+allocated_tree words = Reads (λ blocks. placed_tree blocks words (least_free (spans_of blocks) words))
+
+pub plays_allocated : (here : Here) (words : ℕ) → Plays here (λ by. allocated here words) (λ n. allocated_tree words)
+plays_allocated here words = record {
+  lasts = from_one (λ n. Lasts n (allocated_tree words)) tt
+      (λ n blocks. lasts_placed n blocks (least_free (spans_of blocks) words));
+  is = λ n by goes s few. is (least_free (spans_of (s.memory here.comp)) words) by s;
+} where
+  lasts_placed : (n : ℕ) (blocks : Blocks) (o : Option ℕ) → Lasts (suc n) (placed_tree blocks words o)
+  lasts_placed n blocks None = tt
+  lasts_placed n blocks (Some place) = tt
+
+  is : (o : Option ℕ) (by : Calls) (s : State) →
+      placed here words o s ≡ played (placed_tree (s.memory here.comp) words o) by here s
+  is None by s = refl
+  is (Some place) by s = refl
+
 pub plays_call : (here : Here) (target : CallTarget) (args : List Value) →
     Plays here (λ by. by here.comp target args) (λ n. Asks target args (λ v. Gives v))
 plays_call here target args = grind arith
@@ -318,6 +346,33 @@ module _ (Soft : Cause → Type 0) where
       alike = λ n. (Gives v, refl, refl);
     }
 
+    alike_placed : (blocks : Blocks) (words : ℕ) (o : Option ℕ) →
+        Alike Soft (placed_tree blocks words o) (placed_tree blocks words o)
+    alike_placed blocks words None = refl
+    alike_placed blocks words (Some place) = (Gives _, refl, refl)
+
+    -- cells of the zone of the compartment
+    pub match_allocated : (words : ℕ) → Match Soft here (λ by. allocated here words) (λ by. allocated here words)
+    match_allocated words = record {
+      tree = λ n. allocated_tree words;
+      other_tree = λ n. allocated_tree words;
+      first = plays_allocated here words;
+      second = plays_allocated here words;
+      alike = λ n. (
+        (λ blocks. placed_tree blocks words (least_free (spans_of blocks) words)),
+        refl,
+        (λ blocks. alike_placed blocks words (least_free (spans_of blocks) words)),
+      );
+    }
+
+    -- as many elements as a value says
+    pub match_elements : (v : Value) (words line : ℕ) → Match Soft here
+        (λ by. elements_allocated here v words line) (λ by. elements_allocated here v words line)
+    match_elements v words line =
+        match_then _ _ (λ count by. allocated here (count * words)) (λ count by. allocated here (count * words))
+        (match_computed line (λ blocks. count_in v) (λ blocks. count_in v) (λ blocks. alike refl))
+        (λ count. match_allocated (count * words))
+
     pub match_call : (target : CallTarget) (args : List Value) →
         Match Soft here (λ by. by here.comp target args) (λ by. by here.comp target args)
     match_call target args = record {
@@ -353,6 +408,12 @@ module _ (Soft : Cause → Type 0) where
       pub match_store : (q v : Value) (line : ℕ) → MatchWith (λ by. stored here q v line) (λ by. stored here q v line)
       match_store q v line a = match_then _ _ (λ blocks by t. leave Next a _) (λ blocks by t. leave Next a _)
           (match_computed line (λ blocks. store blocks q v) (λ blocks. store blocks q v) (λ blocks. alike refl))
+          (λ blocks. match_stored _ blocks)
+
+      -- a value is freed
+      pub match_released : (v : Value) (line : ℕ) → MatchWith (λ by. released here v line) (λ by. released here v line)
+      match_released v line a = match_then _ _ (λ blocks by t. leave Next a _) (λ blocks by t. leave Next a _)
+          (match_computed line (λ blocks. freed blocks v) (λ blocks. freed blocks v) (λ blocks. alike refl))
           (λ blocks. match_stored _ blocks)
 
       -- what each of a list does, in order

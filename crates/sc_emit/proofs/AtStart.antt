@@ -3,10 +3,10 @@
 -- An instance: nothing cites it.
 use Rattle.sc_emit.proofs.Common.{Addresses, All, Bool, CallTarget, Calls, CodeTree, FunctionGives, ImageParts}
 use Rattle.sc_emit.proofs.Common.{IsWellFormed, IsWord, Joint, List, None, Overflows, Registers, Setting, Standpoint}
-use Rattle.sc_emit.proofs.Common.{State as Meant, Stopped, TacFnTree, [], ap, append-nil, arith, calls_only}
+use Rattle.sc_emit.proofs.Common.{State as Meant, Stopped, TacFnTree, ℕ, [], ap, append-nil, arith, calls_only}
 use Rattle.sc_emit.proofs.Common.{code_function, code_start, emits_here, false, gate, if◌then◌else◌, inl, length}
 use Rattle.sc_emit.proofs.Common.{linked, map, names_only, ne_eqb, not, refl, runs_with, stack_top, start, start_memory}
-use Rattle.sc_emit.proofs.Common.{sym, true, wrapping, ℕ, ◌==◌, ◌∙◌, ◌∷◌, ◌≡◌, ◌⊎◌}
+use Rattle.sc_emit.proofs.Common.{sym, true, wrapping, ◌==◌, ◌∙◌, ◌∷◌, ◌≡◌, ◌⊎◌}
 use Rattle.rv_code.specs.Prelude.{IsInstr, word_of}
 use Rattle.sc_core.specs.declared.run.RunEnd.TheVariants.{TurnsOut}
 use Rattle.sc_core_laws.proofs.Growing.{no_turn}
@@ -15,6 +15,7 @@ use Rattle.sc_emit_hart.proofs.Fetching.{code_is_fetched}
 use Rattle.sc_emit_relation.specs.Prelude.{CallsFollow}
 use Rattle.sc_image.proofs.Reached.{runs_are_steady}
 use Rattle.sc_tac.specs.Prelude.{everywhere}
+use Rattle.std.specs.Prelude.{slice_index_or, suc, zero}
 use Rattle.sc_image.specs.declared.parts.CompPart.{CompPart}
 
 -- nothing is named
@@ -37,7 +38,8 @@ module _ (comp : CompPart) (inputs : List ℕ) (words : All IsWord inputs) (turn
     (instrs : All IsInstr (linked none (code_start 0) code))
     (its : comp.code ≡ map word_of (linked none (code_start 0) code)) (alone : f.params ≡ 0)
     (names : everywhere (names_only never never_entry never) f.body ≡ true)
-    (calls : everywhere (calls_only no_call no_value) f.body ≡ true) where
+    (calls : everywhere (calls_only no_call no_value) f.body ≡ true)
+    (heap : code.heap ≡ true → comp.heap ≡ true) where
   -- one compartment, whose code this is
   abbrev image : ImageParts
   image = record { main = 0; entry = code_start 0; comps = comp ∷ [] }
@@ -77,6 +79,10 @@ module _ (comp : CompPart) (inputs : List ℕ) (words : All IsWord inputs) (turn
     input = 0;
   }
 
+  none_taken : (k : ℕ) → slice_index_or x.zones k [] ≡ []
+  none_taken zero = refl
+  none_taken (suc k) = refl
+
   -- calls that are never made may do anything, as to end the run
   abbrev no_calls : Calls
   no_calls from target args s = Stopped TurnsOut s
@@ -104,6 +110,7 @@ module _ (comp : CompPart) (inputs : List ℕ) (words : All IsWord inputs) (turn
         globals = λ number h. cc h;
         places = λ number h. cc h;
       };
+      heap = heap;
       words = rw alone refl;
       paid = omega arith;
       stands = code_is_fetched image 0 (linked none (code_start 0) code) [] [] instrs
@@ -124,10 +131,12 @@ module _ (comp : CompPart) (inputs : List ℕ) (words : All IsWord inputs) (turn
               placed = λ k b a cells h live e. cc live;
               holds = λ k b a i cells c h live e get. cc live;
               apart = λ k b c a d xs ys h l m p q n. cc l;
+              lies = λ k b a block h at live e. cc at;
               known = λ k b a e. cc e;
             };
             globals = λ k number h l. absurd (omega (arith, l));
             saved = λ k n h. (let never : true ≡ false = sym (ap not (ne_eqb k 0 n)) ∙ h in cc never);
+            zones = λ k h. record { same = none_taken k; laid = omega arith };
             inputs = refl;
             steady = runs_are_steady.first image formed;
             came = record { steps = 0; walks = record { by = refl } };

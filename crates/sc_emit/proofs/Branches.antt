@@ -3,7 +3,7 @@
 use Rattle.sc_emit.proofs.Common.{Bne, Bool, Branch, Each, Ebreak, Entry, Export, FrameTree, Inside, Instr, Jal, Jalr}
 use Rattle.sc_emit.proofs.Common.{Line, List, Load, Main, None, Op, Option, Other, Place, Places, Plan, Register, Role}
 use Rattle.sc_emit.proofs.Common.{Sets, ShortForm, Slot, Some, Store, Sw, TacFnTree, TacOp, TacStmt, TacStmt-F, [], a0}
-use Rattle.sc_emit.proofs.Common.{address_scratch, and_first, and_from, and_rest, arith, at_hand, between}
+use Rattle.sc_emit.proofs.Common.{a1, address_scratch, and_first, and_from, and_rest, arith, at_hand, between}
 use Rattle.sc_emit.proofs.Common.{between_keeps, binary_code, branch_back, branch_reach, branch_step, branches, brought}
 use Rattle.sc_emit.proofs.Common.{bytes_ahead, bytes_of, call_cross, call_own, choice, choosing, closing, code_branches}
 use Rattle.sc_emit.proofs.Common.{code_of, cond, copied, count_by, cycle, each_before, ending_past, environment_call}
@@ -288,6 +288,21 @@ module _ (frame : FrameTree) (places : List Place) where
   output_straight value =
       both (brought frame a0 (place_of frame places value)) _
       (brought_straight frame a0 (place_of frame places value)) refl
+
+  pub alloc_straight : (dest count words : ℕ) → Straight
+      (brought frame a0 (place_of frame places count) ++ loading a1 words ++ environment_call 3 ++
+      put frame a0 (place_of frame places dest))
+  alloc_straight dest count words =
+      let given : List Instr = brought frame a0 (place_of frame places count) in
+      both (given ++ loading a1 words ++ environment_call 3) (put frame a0 (place_of frame places dest))
+      (both (given ++ loading a1 words) (environment_call 3)
+      (both given (loading a1 words) (brought_straight frame a0 (place_of frame places count))
+      (loading_straight a1 words)) refl) (put_straight frame a0 (place_of frame places dest))
+
+  pub free_straight : (pointer : ℕ) → Straight (brought frame a0 (place_of frame places pointer) ++ environment_call 4)
+  free_straight pointer =
+      both (brought frame a0 (place_of frame places pointer)) _
+      (brought_straight frame a0 (place_of frame places pointer)) refl
 
   store_arguments_straight : (params from : ℕ) → Straight (store_arguments frame places params from)
   store_arguments_straight zero from = refl
@@ -714,6 +729,8 @@ module _ (frame : FrameTree) (places : List Place) (plan : Plan) where
   layer_shaped (tac.Input dest) h =
       plainly_shaped (environment_call 1 ++ receive frame places dest) (receive_straight frame places dest)
   layer_shaped (tac.Output value) h = plainly_shaped _ (output_straight frame places value)
+  layer_shaped (tac.Alloc dest count words) h = plainly_shaped _ (alloc_straight frame places dest count words)
+  layer_shaped (tac.Free pointer) h = plainly_shaped _ (free_straight frame places pointer)
   layer_shaped (tac.Return value) h =
       in_role 0 (role_of_return value) _ (plainly_shaped _ (return_straight frame places value))
 

@@ -4,7 +4,7 @@ use Rattle.sc_emit.proofs.Common.{Calls, CallsFollow, CodeAt, Codes, Comes, Come
 use Rattle.sc_emit.proofs.Common.{Follows, FrameMatches, FrameTree, Goes, HasNoOtherUse, Instr, IsBack, IsClear}
 use Rattle.sc_emit.proofs.Common.{IsInside, IsPlace, IsRunning, IsSome, Jal, Jalr, Joint, Left, Line, List, Lives, Lui}
 use Rattle.sc_emit.proofs.Common.{MovesOn, Next, None, Option, Overflows, Own, Piece, Place, Point, Reached, Ready}
-use Rattle.sc_emit.proofs.Common.{Register, Registers, ReturnsValue, Running, Setting, Slot, Some, Standpoint}
+use Rattle.sc_emit.proofs.Common.{Register, Registers, ReturnsValue, Running, Setting, Settled, Slot, Some, Standpoint}
 use Rattle.sc_emit.proofs.Common.{StandsFor, State as Meant, Stopped, Stores, Temps, Trail, Upper, Value, [], a0}
 use Rattle.sc_emit.proofs.Common.{add_word, all_at, and_from, and_then, ap, append_assoc, arith, arrives_with}
 use Rattle.sc_emit.proofs.Common.{assigned_at, assigns_register, assigns_slot, back_at, call_cross, call_does}
@@ -179,6 +179,28 @@ module _ {T : Setting} {R : Running} (valid : IsRunning T R) where
         (receives_by dest there.0 v ready clear back there.1 (valid.placed dest there.0 there.1)
         (subst (λ o. CodeAt T.image A.here.comp y.pc (put frame a0 o)) there.1 code))
 
+  -- A call came back, and its value goes to where it is wanted.
+  module _ (dest : Option ℕ) (args : List ℕ) (there : HasPlace R.places dest) (lives : Lives) (temps : Temps)
+      (clear : IsClear R.places (last_point dest lives)) (y : Joint) (left : ℕ) (ends : Ends)
+      (left_is : ends.left ≡ left)
+      (after_is : ends.following ≡ y.pc + 4 + 4 * length (receive frame R.places dest))
+      (code : CodeAt T.image A.here.comp (y.pc + 4) (receive frame R.places dest)) (settled : Settled T P y) where
+    abbrev room : ℕ
+    room = length (receive frame R.places dest) + left
+
+    pub lands : (v : Option Value) (s : Meant) → IsGiven dest v → IsBack T R args dest lives temps y room v s →
+        Comes T R lives y (1 + room) ends (leave Next (received dest v temps) s)
+    lands v s given k =
+        let at : CodeAt T.image A.here.comp k.y.pc (receive frame R.places dest) =
+        subst (λ pc. CodeAt T.image A.here.comp pc (receive frame R.places dest)) (sym k.pc) code in
+        comes_after T R lives y k.y (1 + room) room ends (leave Next (received dest v temps) s) settled k.leads
+        (inl (subst (λ s. Arrives T R lives.following k.y room ends.left (received dest v temps) s ends.following)
+        k.meant_is
+        (arrives_with T R lives.following k.y room room left ends.left (received dest v temps) k.y.meant
+        (k.y.pc + 4 * length (receive frame R.places dest)) ends.following (omega arith) (omega (arith, left_is))
+        (omega (arith, k.pc, after_is))
+        (receives lives temps k.y left args dest v k.ready clear k.value given there at))))
+
   -- The call.
 
   -- code makes the registers as a call needs them
@@ -224,18 +246,8 @@ module _ {T : Setting} {R : Running} (valid : IsRunning T R) where
         came_back : (piece : Piece (Option Value)) → Answers dest piece → CallGives T (call_from T R) y target piece →
             Comes T R lives y budget ends (and_then piece onwards)
         came_back (Reached v s) given g =
-            let k : IsBack T R args dest lives temps y (length to_place + left) v s =
-            back y (length to_place + left) v s ready g in
-            let at : CodeAt T.image A.here.comp k.y.pc to_place =
-            subst (λ pc. CodeAt T.image A.here.comp pc to_place) (sym k.pc) code in
-            comes_after T R lives y k.y budget (length to_place + left) ends (onwards v s) ready.settled k.leads
-            (inl (subst (λ s. Arrives T R lives.following k.y (length to_place + left) ends.left (received dest v temps)
-            s
-            ends.following) k.meant_is
-            (arrives_with T R lives.following k.y (length to_place + left) (length to_place + left) left ends.left
-            (received dest v temps) k.y.meant (k.y.pc + 4 * length to_place) ends.following (omega arith)
-            (omega (arith, left_is)) (omega (arith, k.pc, after_is))
-            (receives lives temps k.y left args dest v k.ready clear k.value given there at))))
+            lands dest args there lives temps clear y left ends left_is after_is code ready.settled v s given
+            (back y (length to_place + left) v s ready g)
         came_back (Stopped end s) given g =
             inl (emits_less T P y 1 budget s (omega arith) (emits_from T R y 1 s g))
 

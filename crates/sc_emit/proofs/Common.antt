@@ -21,9 +21,10 @@ pub use Rattle.sc_word.proofs.Words.{word_of-lt, word_of-unsigned_sub}
 pub use Rattle.sc_word.specs.Prelude.{add_word, sub_word, word_of}
 pub use Rattle.sc_core.proofs.Induction.{Each, everywhere}
 pub use Rattle.sc_core.specs.Prelude.{Blocks, Break, Calls, Continue, Exit, Function, Here, Left, Next, Piece, Reached}
-pub use Rattle.sc_core.specs.Prelude.{Return, State, Stopped, all_do, and_then, at_brace, begun, choose, closed}
-pub use Rattle.sc_core.specs.Prelude.{computed, done, follow, in_loop, is_true, leave, load, rounds, store, stored}
-pub use Rattle.sc_core.specs.Prelude.{total, turn, with_memory, wrapping}
+pub use Rattle.sc_core.specs.Prelude.{Return, State, Stopped, all_do, allocated, and_then, at_brace, begun, choose}
+pub use Rattle.sc_core.specs.Prelude.{closed, computed, count_in, done, elements_allocated, follow, freed, in_loop}
+pub use Rattle.sc_core.specs.Prelude.{is_true, leave, load, placed, released, rounds, spans_of, store, stored, total}
+pub use Rattle.sc_core.specs.Prelude.{turn, with_memory, wrapping}
 pub use Rattle.sc_core.specs.declared.cause.Cause.{Cause}
 pub use Rattle.sc_core.specs.declared.expr.CallTarget.{CallTarget}
 pub use Rattle.sc_core.specs.declared.expr.CallTarget.TheVariants.{Cross, Input, Output, Own}
@@ -39,21 +40,22 @@ pub use Rattle.rv_code.specs.declared.instr.OpImmOp.TheVariants.{Addi}
 pub use Rattle.rv_code.specs.declared.instr.StoreOp.TheVariants.{Sw}
 pub use Rattle.rv_code.specs.declared.instr.UpperOp.TheVariants.{Lui}
 pub use Rattle.sc_store.specs.Prelude.{ByteMemory}
-pub use Rattle.sc_image.specs.Prelude.{IsWellFormed, IsWord, Traps, Walks, code_start, data_start, gate, jalr_target}
-pub use Rattle.sc_image.specs.Prelude.{refused, stack_top, start, start_memory, step, unless_trap}
+pub use Rattle.sc_image.specs.Prelude.{IsWellFormed, IsWord, Traps, Walks, code_start, data_start, gate, has_heap}
+pub use Rattle.sc_image.specs.Prelude.{jalr_target, refused, stack_top, start, start_memory, step, unless_trap}
 unfoldable pub use Rattle.sc_image.specs.Prelude.{are_data, word_at}
 pub use Rattle.sc_image.specs.declared.parts.ImageParts.{ImageParts}
 pub use Rattle.sc_tac.proofs.Induction.{Inside, stmt_induction}
 pub use Rattle.sc_tac.specs.Prelude.{Ahead, ArePlaces, Codes, FrameFits, IsAssignment, IsClear, IsFrame, IsFunction}
-pub use Rattle.sc_tac.specs.Prelude.{Lives, Point, TempSet, Temps, Trail, ahead_at, all_true, branch_step, branches}
-pub use Rattle.sc_tac.specs.Prelude.{call_does, code_denotations, code_does, code_function, code_step, constant_value}
-pub use Rattle.sc_tac.specs.Prelude.{counts_elements, entry_weight, function_points, gets, has_elements, has_operands}
-pub use Rattle.sc_tac.specs.Prelude.{has_words, interval_of, intervals_of, is_one, is_place, known, live_across}
-pub use Rattle.sc_tac.specs.Prelude.{live_before, names_own_object, names_own_temps, no_temps, nothing_live}
-pub use Rattle.sc_tac.specs.Prelude.{one_or_none, operated, parts, passes_few, passes_words, plain_points, point, read}
-pub use Rattle.sc_tac.specs.Prelude.{read_all, readings, received, register_count, return_does, row_first, row_points}
-pub use Rattle.sc_tac.specs.Prelude.{same_entry, second, slots_of, slots_up_to, start_of, stmt_branches, stmt_does}
-pub use Rattle.sc_tac.specs.Prelude.{takes_two, trail, trail_step, weight, with_parts, with_temp}
+pub use Rattle.sc_tac.specs.Prelude.{Lives, Point, TempSet, Temps, Trail, ahead_at, all_true, alloc_does, branch_step}
+pub use Rattle.sc_tac.specs.Prelude.{branches, call_does, code_denotations, code_does, code_function, code_step}
+pub use Rattle.sc_tac.specs.Prelude.{constant_value, counts_elements, entry_weight, free_does, function_points, gets}
+pub use Rattle.sc_tac.specs.Prelude.{has_elements, has_operands, has_words, interval_of, intervals_of, is_one, is_place}
+pub use Rattle.sc_tac.specs.Prelude.{known, leaves_heap, live_across, live_before, names_own_object, names_own_temps}
+pub use Rattle.sc_tac.specs.Prelude.{no_temps, nothing_live, one_or_none, operated, parts, passes_few, passes_words}
+pub use Rattle.sc_tac.specs.Prelude.{plain_points, point, read, read_all, readings, received, register_count}
+pub use Rattle.sc_tac.specs.Prelude.{return_does, row_first, row_points, same_entry, second, slots_of, slots_up_to}
+pub use Rattle.sc_tac.specs.Prelude.{start_of, stmt_branches, stmt_does, takes_two, trail, trail_step, uses_heap}
+pub use Rattle.sc_tac.specs.Prelude.{weight, with_parts, with_temp}
 pub use Rattle.sc_tac.specs.declared.frame.FrameTree.{FrameTree}
 pub use Rattle.sc_tac.specs.declared.function.TacFnTree.{TacFnTree}
 pub use Rattle.sc_tac.specs.declared.place.Place.{Place}
@@ -70,7 +72,7 @@ pub use Rattle.sc_emit_select.proofs.Joining.{which_pair}
 pub use Rattle.sc_emit_select.proofs.Sizes.{row_is_sized}
 pub use Rattle.sc_emit_select.proofs.Turning.{IsTested, break_stmt, each_before, each_plain, fork_kind, kind_is}
 pub use Rattle.sc_emit_select.proofs.Turning.{kind_of, layer_kind, loop_kind, plain_fork, test_stmt, turning_by}
-pub use Rattle.sc_emit_select.specs.Prelude.{Addresses, Kind, Line, Need, Plan, Strays, a0, a7, address_scratch}
+pub use Rattle.sc_emit_select.specs.Prelude.{Addresses, Kind, Line, Need, Plan, Strays, a0, a1, a7, address_scratch}
 pub use Rattle.sc_emit_select.specs.Prelude.{all_plain, as_one, at_hand, between, binary_code, branch_back}
 pub use Rattle.sc_emit_select.specs.Prelude.{branch_reach, brought, bytes_ahead, bytes_of, call_cross, call_own, choice}
 pub use Rattle.sc_emit_select.specs.Prelude.{choosing, closing, code_of, completed, copied, cycle, ending_past}

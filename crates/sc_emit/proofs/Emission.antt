@@ -4,12 +4,12 @@ use Rattle.sc_emit.proofs.Common.{FunctionFollows, IfOk, Instr, IsAssignment, Is
 use Rattle.sc_emit.proofs.Common.{IsRunning, Line, List, Ok, Place, Register, Result, Running, Setting, Slot, Some}
 use Rattle.sc_emit.proofs.Common.{TacFnTree, [], and_parts, ap, append_assoc, arith, branch_reach, calls_only, closing}
 use Rattle.sc_emit.proofs.Common.{code_does, code_function, code_of, entry_weight, frame_taken, function_lines}
-use Rattle.sc_emit.proofs.Common.{function_points, interval_of, intervals_of, is_near, is_place, length, length-append}
-use Rattle.sc_emit.proofs.Common.{length-map, list_all, ltb-true, map, map-append, max, names_own_temps, nat_lt}
-use Rattle.sc_emit.proofs.Common.{needs_of, plainly, plan_of, prologue, range_with_len, refl, register_count, row}
-use Rattle.sc_emit.proofs.Common.{row_is_sized, same_Some, select_all, slice_get, slice_get-get_or, slots_of}
-use Rattle.sc_emit.proofs.Common.{slots_up_to, store_arguments, subst, suc, sym, trail, true, weight, wrapping, zero, ℕ}
-use Rattle.sc_emit.proofs.Common.{◌++◌, ◌+◌, ◌<◌, ◌∙◌, ◌∷◌, ◌≡◌, ◌≤◌}
+use Rattle.sc_emit.proofs.Common.{function_points, has_heap, interval_of, intervals_of, is_near, is_place, length}
+use Rattle.sc_emit.proofs.Common.{length-append, length-map, list_all, ltb-true, map, map-append, max, names_own_temps}
+use Rattle.sc_emit.proofs.Common.{nat_lt, needs_of, plainly, plan_of, prologue, range_with_len, refl, register_count}
+use Rattle.sc_emit.proofs.Common.{row, row_is_sized, same_Some, select_all, slice_get, slice_get-get_or, slots_of}
+use Rattle.sc_emit.proofs.Common.{slots_up_to, store_arguments, subst, suc, sym, trail, true, uses_heap, weight}
+use Rattle.sc_emit.proofs.Common.{wrapping, zero, ℕ, ◌++◌, ◌+◌, ◌<◌, ◌∙◌, ◌∷◌, ◌≡◌, ◌≤◌}
 use Rattle.sc_base.specs.Prelude.{IsPrefix}
 use Rattle.sc_tac.specs.Prelude.{everywhere}
 use Rattle.sc_emit.proofs.Needed.{all_among}
@@ -22,6 +22,7 @@ use Rattle.sc_emit.proofs.Repeating.{repeats_by_rounds}
 use Rattle.sc_emit.proofs.Rounds.{few_back, has_rounds}
 use Rattle.sc_emit.proofs.Statements.{body_follows}
 use Rattle.sc_emit.proofs.Targets.{targets_named}
+use Rattle.sc_emit.proofs.Heap.{heap_kept, keeps_to_heap}
 
 -- a slot that a place names is below their number
 slot_below : (places : List Place) (t k : ℕ) → slice_get places t ≡ Some (Slot k) → k < slots_of places
@@ -105,6 +106,9 @@ module _ (f : TacFnTree) (places : List Place) (frame : FrameTree) (rules : IsFu
         subst (λ c. AreReached T c is.function is.entry is.global) (sym run.comp_is) is.reached in
         let made : everywhere (calls_only (T.makes A.here.comp) (T.gives A.here.comp)) f.body ≡ true =
         subst (λ c. everywhere (calls_only (T.makes c) (T.gives c)) f.body ≡ true) (sym run.comp_is) is.calls in
+        let heap : everywhere (keeps_to_heap (has_heap T.image A.here.comp)) f.body ≡ true =
+        subst (λ c. everywhere (keeps_to_heap (has_heap T.image c)) f.body ≡ true) (sym run.comp_is)
+        (heap_kept (has_heap T.image comp) f.body is.heap) in
         let temps : everywhere (names_own_temps (length places)) f.body ≡ true =
         subst (λ n. everywhere (names_own_temps n) f.body ≡ true) temps_are rules.own_temps in
         subst (λ frame. Follows T R (code_does wrapping A.here calls f.body) (select_all frame places (plan_of f near)
@@ -121,7 +125,7 @@ module _ (f : TacFnTree) (places : List Place) (frame : FrameTree) (rules : IsFu
                   rules.words,
                   (
                     rules.elements,
-                    (is.names, (made, tt)),
+                    (is.names, (made, (heap, tt))),
                   ),
                 ),
               ),
@@ -134,10 +138,8 @@ module _ (f : TacFnTree) (places : List Place) (frame : FrameTree) (rules : IsFu
         code_follows T f frame places near is.image is.inputs rules whole frame_fits small assigned is.words comp
         address
         (length code.instrs)
-        (subst (CodeAt T.image comp address) (linked_is (T.addresses comp) address lines) is.stands) (omega (
-          arith,
-          all_instrs,
-        )) body (brace_returns T f frame places near is.image is.inputs (all_placed T) comp)
+        (subst (CodeAt T.image comp address) (linked_is (T.addresses comp) (uses_heap f.body) address lines) is.stands)
+        (omega (arith, all_instrs)) body (brace_returns T f frame places near is.image is.inputs (all_placed T) comp)
 
   -- the prologue comes first
   enters : IsPrefix (frame_taken frame.bytes) code.instrs
@@ -172,6 +174,7 @@ module _ (f : TacFnTree) (places : List Place) (frame : FrameTree) (rules : IsFu
     jumps = known_jumps f places frame;
     branches = few_branches f places frame;
     no_ebreak = no_ebreak f places frame;
+    heap = refl;
     names = λ function entry global h. targets_named function entry global f places frame h;
   }
 

@@ -23,7 +23,7 @@ module _ {T : Setting} {R : Running} (valid : IsRunning T R) where
   frame = R.activation.frame
 
   -- the environment leaves all that temporaries hold
-  asked_back : (reads : List ℕ) (dest : Option ℕ) (lives : Lives) (temps : Temps) (x : Joint) (target : CallTarget)
+  pub asked_back : (reads : List ℕ) (dest : Option ℕ) (lives : Lives) (temps : Temps) (x : Joint) (target : CallTarget)
       (left : ℕ) (v : Option Value) (meant : Meant) → of_environment target ≡ true →
       Ready T R (live_plain reads dest lives) temps x → ComesBack T (call_from T R) x target v meant →
       IsBack T R reads dest lives temps x left v meant

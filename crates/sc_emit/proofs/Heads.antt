@@ -9,17 +9,18 @@ use Rattle.sc_emit.proofs.Common.{Registers, Result, Return, Running, Setting, S
 use Rattle.sc_emit.proofs.Common.{Stopped, TacStmt, TacStmt-F, TempSet, Temps, Trail, Value, Walks, [], add_word}
 use Rattle.sc_emit.proofs.Common.{ahead_at, all_do, all_plain, all_prefix, and_parts, and_then, ap, append_assoc, ap₂}
 use Rattle.sc_emit.proofs.Common.{arith, back_to, branch_back, branch_reach, call_does, choose, code_inside, code_step}
-use Rattle.sc_emit.proofs.Common.{completed, computed, each_plain, effect_still, emits_after, emits_here, ends_of}
-use Rattle.sc_emit.proofs.Common.{eq-eqb, false, first_scratch, fold-roll-TacStmt, follow as then_follow, follow_goes}
-use Rattle.sc_emit.proofs.Common.{gets, if◌then◌else◌, in_loop, in_parts, inl, inr, is_plain, is_true, jump_back}
-use Rattle.sc_emit.proofs.Common.{kind_is, kind_of, known as is_known, layer_kind, leads_then, leads_then_steps, leave}
-use Rattle.sc_emit.proofs.Common.{length, length-map, live_before, load, low_plainly, lt-ltb, machine, map, map-TacStmt}
-use Rattle.sc_emit.proofs.Common.{map-append, moved, neg_ℤ, operand, operated, or_left, or_right, overflows_with, plain}
-use Rattle.sc_emit.proofs.Common.{plain_fork, plainly, plainly_at, pos, read, read_all, readings, ready_less, received}
-use Rattle.sc_emit.proofs.Common.{refl, roll-TacStmt, rounds, row, row_first, row_points, second, seen_from, select}
-use Rattle.sc_emit.proofs.Common.{stays, stmt_does, stmt_induction, store, stored, subst, suc, sym, take, test_stmt}
-use Rattle.sc_emit.proofs.Common.{testing, then_from, trail, trail_step, true, turn, with_memory, with_temp, word_at}
-use Rattle.sc_emit.proofs.Common.{word_of, wrapping, zero, ℕ, ℤ, ⊎_elim, ◌*◌, ◌++◌, ◌+◌, ◌<◌, ◌==◌, ◌∙◌, ◌∷◌, ◌≡◌, ◌≤◌}
+use Rattle.sc_emit.proofs.Common.{completed, computed, each_plain, effect_still, elements_allocated, emits_after}
+use Rattle.sc_emit.proofs.Common.{emits_here, ends_of, eq-eqb, false, first_scratch, fold-roll-TacStmt}
+use Rattle.sc_emit.proofs.Common.{follow as then_follow, follow_goes, freed, gets, if◌then◌else◌, in_loop, in_parts}
+use Rattle.sc_emit.proofs.Common.{inl, inr, is_plain, is_true, jump_back, kind_is, kind_of, known as is_known}
+use Rattle.sc_emit.proofs.Common.{layer_kind, leads_then, leads_then_steps, leave, length, length-map, live_before}
+use Rattle.sc_emit.proofs.Common.{load, low_plainly, lt-ltb, machine, map, map-TacStmt, map-append, moved, neg_ℤ}
+use Rattle.sc_emit.proofs.Common.{operand, operated, or_left, or_right, overflows_with, plain, plain_fork, plainly}
+use Rattle.sc_emit.proofs.Common.{plainly_at, pos, read, read_all, readings, ready_less, received, refl, released}
+use Rattle.sc_emit.proofs.Common.{roll-TacStmt, rounds, row, row_first, row_points, second, seen_from, select, stays}
+use Rattle.sc_emit.proofs.Common.{stmt_does, stmt_induction, store, stored, subst, suc, sym, take, test_stmt, testing}
+use Rattle.sc_emit.proofs.Common.{then_from, trail, trail_step, true, turn, with_memory, with_temp, word_at, word_of}
+use Rattle.sc_emit.proofs.Common.{wrapping, zero, ℕ, ℤ, ⊎_elim, ◌*◌, ◌++◌, ◌+◌, ◌<◌, ◌==◌, ◌∙◌, ◌∷◌, ◌≡◌, ◌≤◌}
 use Rattle.sc_core.specs.Prelude.{in_order as one_by_one, take as take_route}
 use Rattle.sc_emit_select.specs.Prelude.{Piece as Code}
 use Rattle.sc_tac.specs.declared.stmt.TacStmt.TheOpen as tac
@@ -160,6 +161,15 @@ module _ (frame : FrameTree) (places : List Place) (plan : Plan) (here : Here) (
   layer_goes_on (tac.CallCross dest comp index args) inside h temps s = call_on dest (Cross comp index) args temps s
   layer_goes_on (tac.Input dest) inside h temps s = call_on dest Input [] temps s
   layer_goes_on (tac.Output value) inside h temps s = call_on None Output (value ∷ []) temps s
+  layer_goes_on (tac.Alloc dest count words) inside h temps s =
+      then_on (read here count temps s)
+      (λ v s. and_then (elements_allocated here v words 0 s) (λ q s. leave Next (with_temp dest q temps) s))
+      (λ v s. then_on (elements_allocated here v words 0 s) (λ q s. leave Next (with_temp dest q temps) s)
+      (λ q s. refl))
+  layer_goes_on (tac.Free pointer) inside h temps s =
+      then_on (read here pointer temps s) (λ v s. released here v 0 temps s)
+      (λ v s. then_on (computed here 0 (freed (s.memory here.comp) v) s)
+      (λ blocks s. leave Next temps (with_memory here.comp blocks s)) (λ blocks s. refl))
   layer_goes_on (tac.Return None) inside h temps s = refl
   layer_goes_on (tac.Return (Some t)) inside h temps s =
       then_on (read here t temps s) (λ v s. leave (Return (Some v)) temps s) (λ v s. refl)

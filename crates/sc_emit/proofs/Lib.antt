@@ -10,6 +10,7 @@ pub mod Entering
 pub mod Environment
 pub mod Functions
 pub mod Gaps
+pub mod Heap
 pub mod Heads
 pub mod Leading
 pub mod LoopCode

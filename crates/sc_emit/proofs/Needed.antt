@@ -148,6 +148,8 @@ module _ (frame : FrameTree) (places : List Place) (plan : Plan) where
   layer_gives (tac.CallCross dest comp index args) = refl
   layer_gives (tac.Input dest) = refl
   layer_gives (tac.Output value) = refl
+  layer_gives (tac.Alloc dest count words) = refl
+  layer_gives (tac.Free pointer) = refl
   layer_gives (tac.Return None) = refl
   layer_gives (tac.Return (Some value)) = refl
 

@@ -1,8 +1,10 @@
 -- Statements that pass several tests, and so do those inside.
-use Rattle.sc_emit.proofs.Common.{Bool, List, TacStmt, TacStmt-F, [], all_true, and_from, and_parts, fold-TacStmt}
-use Rattle.sc_emit.proofs.Common.{fold-roll-TacStmt, list_all, map, map-TacStmt, parts, refl, roll-TacStmt, sym, true}
-use Rattle.sc_emit.proofs.Common.{with_parts, ℕ, ◌++◌, ◌∙◌, ◌∷◌, ◌≡◌}
+use Rattle.sc_emit.proofs.Common.{Bool, Each, Inside, List, TacStmt, TacStmt-F, [], all_true, and_from, and_parts}
+use Rattle.sc_emit.proofs.Common.{fold-TacStmt, fold-roll-TacStmt, list_all, map, map-TacStmt, parts, refl}
+use Rattle.sc_emit.proofs.Common.{roll-TacStmt, stmt_induction, sym, true, with_parts, ℕ, ◌&&◌, ◌++◌, ◌∙◌, ◌∷◌, ◌≡◌}
 use Rattle.sc_tac.specs.declared.stmt.TacStmt.TheOpen as tac
+use Rattle.sc_core.proofs.Induction.{everywhere as of_each}
+use Rattle.sc_tac.specs.Prelude.{everywhere}
 
 -- a test of a statement by itself
 abbrev pub Test : Type 0
@@ -93,3 +95,70 @@ prefix_passes (test ∷ tests) prefix rest h = (by prefix h.0, prefix_passes tes
     by (x ∷ xs) k =
         let parts = and_parts (passes test x) (all_true (map (passes test) (xs ++ rest))) k in
         and_from (passes test x) (all_true (map (passes test) xs)) parts.0 (by xs parts.1)
+
+-- A test that others imply, of each statement by itself, holds everywhere where they do.
+module _ (tests : List Test) (test : Test)
+    (implies : (layer : TacStmt-F TacStmt) → PassesHere tests layer → test (map-TacStmt _ _ (passes test) layer) ≡ true)
+  where
+    abbrev Implied : TacStmt → Type 0
+    Implied stmt = PassesAll tests stmt → passes test stmt ≡ true
+
+    row_implied : (stmts : List TacStmt) → Each Implied stmts → AllPass tests stmts →
+        all_true (map (passes test) stmts) ≡ true
+    row_implied [] h all = refl
+    row_implied (stmt ∷ stmts) h all =
+        and_from (passes test stmt) (all_true (map (passes test) stmts)) (h.0 (first_passes tests stmt stmts all))
+        (row_implied stmts h.1 (rest_pass tests stmt stmts all))
+
+    abbrev itself : TacStmt-F TacStmt → Bool
+    itself layer = test (map-TacStmt _ _ (passes test) layer)
+
+    lone : (layer : TacStmt-F TacStmt) → PassesAll tests (roll-TacStmt layer) → (itself layer && true) ≡ true
+    lone layer all = and_from (itself layer) true (implies layer (passes_here tests layer all)) refl
+
+    layer_implied : (layer : TacStmt-F TacStmt) → Inside Implied layer → PassesAll tests (roll-TacStmt layer) →
+        with_parts test (map-TacStmt _ _ (passes test) layer) ≡ true
+    layer_implied (tac.Const dest value) h all = lone (tac.Const dest value) all
+    layer_implied (tac.Copy dest from) h all = lone (tac.Copy dest from) all
+    layer_implied (tac.Op dest op left right) h all = lone (tac.Op dest op left right) all
+    layer_implied (tac.ObjectPlace dest object) h all = lone (tac.ObjectPlace dest object) all
+    layer_implied (tac.GlobalPlace dest global) h all = lone (tac.GlobalPlace dest global) all
+    layer_implied (tac.Load dest place pointer) h all = lone (tac.Load dest place pointer) all
+    layer_implied (tac.Store place value) h all = lone (tac.Store place value) all
+    layer_implied (tac.If cond first second) h all =
+        let inner = choice_passes tests cond first second all in
+        and_from (itself (tac.If cond first second))
+        (all_true (map (passes test) first) && (all_true (map (passes test) second) && true))
+        (implies (tac.If cond first second) (passes_here tests (tac.If cond first second) all))
+        (and_from (all_true (map (passes test) first)) (all_true (map (passes test) second) && true)
+        (row_implied first h.0 inner.0)
+        (and_from (all_true (map (passes test) second)) true (row_implied second h.1 inner.1) refl))
+    layer_implied (tac.Loop head body next) h all =
+        let inner = loop_passes tests head body next all in
+        and_from (itself (tac.Loop head body next))
+        (all_true (map (passes test) head) &&
+        (all_true (map (passes test) body) && (all_true (map (passes test) next) && true)))
+        (implies (tac.Loop head body next) (passes_here tests (tac.Loop head body next) all))
+        (and_from (all_true (map (passes test) head))
+        (all_true (map (passes test) body) && (all_true (map (passes test) next) && true))
+        (row_implied head h.0 inner.0)
+        (and_from (all_true (map (passes test) body)) (all_true (map (passes test) next) && true)
+        (row_implied body h.1 inner.1)
+        (and_from (all_true (map (passes test) next)) true (row_implied next h.2 inner.2) refl)))
+    layer_implied tac.Break h all = lone tac.Break all
+    layer_implied tac.Continue h all = lone tac.Continue all
+    layer_implied (tac.CallOwn dest function args) h all = lone (tac.CallOwn dest function args) all
+    layer_implied (tac.CallCross dest comp index args) h all = lone (tac.CallCross dest comp index args) all
+    layer_implied (tac.Input dest) h all = lone (tac.Input dest) all
+    layer_implied (tac.Output value) h all = lone (tac.Output value) all
+    layer_implied (tac.Alloc dest count words) h all = lone (tac.Alloc dest count words) all
+    layer_implied (tac.Free pointer) h all = lone (tac.Free pointer) all
+    layer_implied (tac.Return value) h all = lone (tac.Return value) all
+
+    implied : (stmt : TacStmt) → Implied stmt
+    implied =
+        stmt_induction Implied (λ layer h all.
+        fold-roll-TacStmt Bool (with_parts test) layer ∙ layer_implied layer h all)
+
+    pub implied_everywhere : (stmts : List TacStmt) → AllPass tests stmts → everywhere test stmts ≡ true
+    implied_everywhere stmts all = row_implied stmts (of_each Implied implied stmts) all

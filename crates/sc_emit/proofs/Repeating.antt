@@ -4,8 +4,8 @@ use Rattle.sc_emit.proofs.Common.{Jal, Jalr, Line, List, None, OpImm, Option, Pl
 use Rattle.sc_emit.proofs.Common.{all_at, and_first, and_rest, ap, arith, cases_lt, code_of, code_start, completed}
 use Rattle.sc_emit.proofs.Common.{false, function_lines, if◌then◌else◌, inl, inr, is_near, is_some, linked, list_all}
 use Rattle.sc_emit.proofs.Common.{map, nat_eq, nat_le, neg_ℤ, not, plan_of, pos, refl, slice_get, subst, suc, sym, true}
-use Rattle.sc_emit.proofs.Common.{word_at, word_of, zero, ℕ, ℤ, ⊎_elim, ◌%◌, ◌&&◌, ◌*◌, ◌+◌, ◌-◌, ◌/◌, ◌<◌, ◌==◌, ◌^◌}
-use Rattle.sc_emit.proofs.Common.{◌||◌, ◌∙◌, ◌∷◌, ◌≡◌, ◌≤◌, ◌⊎◌}
+use Rattle.sc_emit.proofs.Common.{uses_heap, word_at, word_of, zero, ℕ, ℤ, ⊎_elim, ◌%◌, ◌&&◌, ◌*◌, ◌+◌, ◌-◌, ◌/◌, ◌<◌}
+use Rattle.sc_emit.proofs.Common.{◌==◌, ◌^◌, ◌||◌, ◌∙◌, ◌∷◌, ◌≡◌, ◌≤◌, ◌⊎◌}
 use Rattle.rv_code.specs.declared.instr.Instr.TheVariants.{Upper}
 use Rattle.rv_code.proofs.OneEach.{HasWord-decoded}
 use Rattle.rv_code.specs.Prelude.{IsInstr}
@@ -159,7 +159,7 @@ module _ (f : TacFnTree) (places : List Place) (frame : FrameTree) (image : Imag
         ap (λ c. word_at image c s.pc) is_next.active ∙ ap (word_at image comp) is_next.pc ∙ fetches.fetched in
         let of : IsOf A lines number instr =
         of_lines A address None lines number instr (all_refer f places frame)
-        (subst (λ is. slice_get is number ≡ Some instr) (linked_is A address lines) is_next.there) in
+        (subst (λ is. slice_get is number ≡ Some instr) (linked_is A (uses_heap f.body) address lines) is_next.there) in
         record {
           at = record { word = fetches.word; fetched = fetched; decodes = fetches.decodes };
           inside = code_inside image formed s.active s.pc fetches.word fetched;

@@ -24,12 +24,12 @@ use Rattle.sc_emit.specs.Layout.{loopless, repeating}
 unfoldable use Rattle.sc_tac.specs.declared.stmt.TacStmt.{roll-TacStmt}
 use Rattle.sc_tac.specs.declared.stmt.TacStmt.TheOpen as tac
 use Rattle.sc_tac.specs.declared.stmt.TacStmt.TheVariants as emit
-use Rattle.sc_emit.proofs.Branches.{object_store_straight, Straight, StraightLines, all_append, closing_straight}
-use Rattle.sc_emit.proofs.Branches.{copied_straight, cross_straight, entrance_straight, global_straight, is_straight}
-use Rattle.sc_emit.proofs.Branches.{is_straight_line, load_from_straight, loaded_straight, object_read_straight}
-use Rattle.sc_emit.proofs.Branches.{short_straight, object_straight, operation_straight, output_straight, own_straight}
-use Rattle.sc_emit.proofs.Branches.{plainly_straight, receive_straight, return_straight, store_to_straight}
-use Rattle.sc_emit.proofs.Branches.{short_return_straight, take_straight}
+use Rattle.sc_emit.proofs.Branches.{Straight, StraightLines, all_append, alloc_straight, closing_straight}
+use Rattle.sc_emit.proofs.Branches.{copied_straight, cross_straight, entrance_straight, free_straight, global_straight}
+use Rattle.sc_emit.proofs.Branches.{is_straight, is_straight_line, load_from_straight, loaded_straight}
+use Rattle.sc_emit.proofs.Branches.{object_read_straight, object_store_straight, object_straight, operation_straight}
+use Rattle.sc_emit.proofs.Branches.{output_straight, own_straight, plainly_straight, receive_straight, return_straight}
+use Rattle.sc_emit.proofs.Branches.{short_return_straight, short_straight, store_to_straight, take_straight}
 
 abbrev instrs_of : List Line → List Instr
 instrs_of lines = map (λ line. line.instr) lines
@@ -485,6 +485,9 @@ module _ (frame : FrameTree) (places : List Place) (plan : Plan) where
       by_instrs (tac.Input dest) (environment_call 1 ++ receive frame places dest) refl
       (receive_straight frame places dest)
   layer_lies (tac.Output value) h = by_instrs (tac.Output value) _ refl (output_straight frame places value)
+  layer_lies (tac.Alloc dest count words) h =
+      by_instrs (tac.Alloc dest count words) _ refl (alloc_straight frame places dest count words)
+  layer_lies (tac.Free pointer) h = by_instrs (tac.Free pointer) _ refl (free_straight frame places pointer)
   layer_lies (tac.Return value) h =
       in_role (roll-TacStmt (tac.Return value)) (role_of_return value) _
       (by_instrs (tac.Return value) _ refl (return_straight frame places value))

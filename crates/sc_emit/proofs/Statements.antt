@@ -7,18 +7,18 @@ use Rattle.sc_emit.proofs.Common.{Stopped, TacOp, TacStmt, TacStmt-F, Trail, Val
 use Rattle.sc_emit.proofs.Common.{ap, ap₂, arith, as_one, between, branch_reach, break_follows, calls_only, code_does}
 use Rattle.sc_emit.proofs.Common.{code_step, continue_follows, counts_elements, each_before, eq-eqb, everywhere, false}
 use Rattle.sc_emit.proofs.Common.{fold-roll-TacStmt, follow as then_follow, followed, gives_place, has_elements}
-use Rattle.sc_emit.proofs.Common.{has_operands, has_words, if◌then◌else◌, in_order, in_turn, is_call, is_some, joined}
-use Rattle.sc_emit.proofs.Common.{joins, leb-true, length, list_all, loads_it, ltb-true, map, map-TacStmt, names_only}
-use Rattle.sc_emit.proofs.Common.{names_own_object, names_own_temps, nat_lt, need, need_step, needs_of, never_applies}
-use Rattle.sc_emit.proofs.Common.{none_after, not, nothing as no_lines, object_inside, object_read, object_store}
-use Rattle.sc_emit.proofs.Common.{object_there, one_or_none, operates_it, parts_least, passes_few, place_needed}
-use Rattle.sc_emit.proofs.Common.{read_is_last, refl, return_is_last, return_of, returns_it, role_first, role_to_next}
-use Rattle.sc_emit.proofs.Common.{role_unjoined, roll-TacStmt, rotated_follows, row, row_needs, select, select_all}
-use Rattle.sc_emit.proofs.Common.{select_step, sets_it, short_form, short_operation, short_return, slice_get-get_or}
-use Rattle.sc_emit.proofs.Common.{stmt_does, stmt_induction, store_is_last, stores_it, straightly, subst, sym}
-use Rattle.sc_emit.proofs.Common.{takes_two, test_stmt, third_is_last, trail, trail_step, true, turning_by, which_pair}
-use Rattle.sc_emit.proofs.Common.{word_of_constant, wrapping, ℕ, ⊎_elim, ◌&&◌, ◌++◌, ◌+◌, ◌<◌, ◌==◌, ◌^◌, ◌||◌, ◌∙◌}
-use Rattle.sc_emit.proofs.Common.{◌∷◌, ◌≡◌, ◌≤◌}
+use Rattle.sc_emit.proofs.Common.{has_heap, has_operands, has_words, if◌then◌else◌, in_order, in_turn, is_call, is_some}
+use Rattle.sc_emit.proofs.Common.{joined, joins, leb-true, length, list_all, loads_it, ltb-true, map, map-TacStmt}
+use Rattle.sc_emit.proofs.Common.{names_only, names_own_object, names_own_temps, nat_lt, need, need_step, needs_of}
+use Rattle.sc_emit.proofs.Common.{never_applies, none_after, not, nothing as no_lines, object_inside, object_read}
+use Rattle.sc_emit.proofs.Common.{object_store, object_there, one_or_none, operates_it, parts_least, passes_few}
+use Rattle.sc_emit.proofs.Common.{place_needed, read_is_last, refl, return_is_last, return_of, returns_it, role_first}
+use Rattle.sc_emit.proofs.Common.{role_to_next, role_unjoined, roll-TacStmt, rotated_follows, row, row_needs, select}
+use Rattle.sc_emit.proofs.Common.{select_all, select_step, sets_it, short_form, short_operation, short_return}
+use Rattle.sc_emit.proofs.Common.{slice_get-get_or, stmt_does, stmt_induction, store_is_last, stores_it, straightly}
+use Rattle.sc_emit.proofs.Common.{subst, sym, takes_two, test_stmt, third_is_last, trail, trail_step, true, turning_by}
+use Rattle.sc_emit.proofs.Common.{which_pair, word_of_constant, wrapping, ℕ, ⊎_elim, ◌&&◌, ◌++◌, ◌+◌, ◌<◌, ◌==◌, ◌^◌}
+use Rattle.sc_emit.proofs.Common.{◌||◌, ◌∙◌, ◌∷◌, ◌≡◌, ◌≤◌}
 use Rattle.sc_core.specs.Prelude.{in_order as one_by_one}
 use Rattle.sc_emit_select.specs.Prelude.{Piece as Code}
 use Rattle.sc_emit.proofs.Needed.{all_append, gives_to_next, gives_of, head_needs, need_gives, store_unjoined}
@@ -43,6 +43,7 @@ use Rattle.sc_emit.proofs.Heads.{head_of_stmts}
 use Rattle.sc_emit.proofs.Returned.{all_three, gives_back, gives_back_follows, three_as_one}
 use Rattle.sc_emit.proofs.Returns.{return_follows}
 use Rattle.sc_emit.proofs.Straight.{after_nothing}
+use Rattle.sc_emit.proofs.Heap.{alloc_follows, free_follows, keeps_to_heap}
 
 beq_same : (a b : Bool) → beq a b ≡ true → a ≡ b
 beq_same true true h = refl
@@ -64,7 +65,8 @@ module _ {T : Setting} {R : Running} (valid : IsRunning T R) (calls : Calls) (fo
   abbrev tests : List Test
   tests =
       names_own_temps (length R.places) ∷ names_own_object (length valid.cells) ∷ has_operands ∷ passes_few ∷ has_words
-      ∷ has_elements ∷ names_only function entry global ∷ calls_only (T.makes here.comp) (T.gives here.comp) ∷ []
+      ∷ has_elements ∷ names_only function entry global ∷ calls_only (T.makes here.comp) (T.gives here.comp) ∷
+      keeps_to_heap (has_heap T.image here.comp) ∷ []
 
   abbrev does : TacStmt → Codes
   does = stmt_does wrapping here calls
@@ -667,6 +669,15 @@ module _ {T : Setting} {R : Running} (valid : IsRunning T R) (calls : Calls) (fo
       input_follows valid calls follow dest (place_wanted dest [] h.0)
       (made dest Input 0 h.1.1.1.1.1.1.1.0) (answers dest Input 0 h.1.1.1.1.1.1.1.0)
 
+  alloc_level : (dest count words : ℕ) → Shape (tac.Alloc dest count words)
+  alloc_level dest count words h all needs at few =
+      alloc_follows valid h.1.1.1.1.1.1.1.1.0 calls dest count words (place_there dest (count ∷ []) h.0)
+      (and_first (R.plan.needed count) true needs) (ltb-true words (2 ^ 32) h.1.1.1.1.0)
+
+  free_level : (pointer : ℕ) → Shape (tac.Free pointer)
+  free_level pointer h all needs at few =
+      free_follows valid h.1.1.1.1.1.1.1.1.0 calls pointer (and_first (R.plan.needed pointer) true needs)
+
   if_level : (cond : ℕ) (first second : List TacStmt) → Each Followed first → Each Followed second →
       Shape (tac.If cond first second)
   if_level cond first second each each' h all needs at few =
@@ -738,6 +749,8 @@ module _ {T : Setting} {R : Running} (valid : IsRunning T R) (calls : Calls) (fo
         holds = λ h all needs at few. output_follows valid calls follow value needs (made
             None Output 1 h.1.1.1.1.1.1.1.0);
       }
+  level (tac.Alloc dest count words) inner = record { holds = alloc_level dest count words }
+  level (tac.Free pointer) inner = record { holds = free_level pointer }
   level (tac.Return value) inner =
       record { holds = λ h all needs at few. return_follows valid calls value needs }
 

@@ -166,6 +166,8 @@ module _ (function : ℕ → Bool) (entry : (comp index : ℕ) → Bool) (global
         cross_named dest comp index args (and_first (entry comp index) true all)
     layer_named (tac.Input dest) h all = unlinked (environment_call 1 ++ receive frame places dest)
     layer_named (tac.Output value) h all = unlinked _
+    layer_named (tac.Alloc dest count words) h all = unlinked _
+    layer_named (tac.Free pointer) h all = unlinked _
     layer_named (tac.Return value) h all = record { passes = λ b c. plainly_named (return frame places value) }
 
     stmt_named : (stmt : TacStmt) → Named stmt

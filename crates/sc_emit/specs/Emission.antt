@@ -1,11 +1,11 @@
 -- What the code of a function keeps.
 use Rattle.sc_core.specs.Prelude.{instrs_a_node}
 use Rattle.sc_emit.specs.Common.{CodeTree, FunctionFollows, Setting, branches, code_function, entry_weight, everywhere}
-use Rattle.sc_emit.specs.Common.{frame_taken, linked, passes_words, refers_only, weight, wrapping}
+use Rattle.sc_emit.specs.Common.{frame_taken, linked, passes_words, refers_only, uses_heap, weight, wrapping}
 use Rattle.sc_base.specs.Prelude.{IsPrefix}
-use Rattle.sc_image.specs.Prelude.{IsWellFormed, IsWord}
+use Rattle.sc_image.specs.Prelude.{IsWellFormed, IsWord, has_heap}
 use Rattle.sc_emit_hart.specs.Prelude.{CodeAt}
-use Rattle.std.specs.Prelude.{ℕ, ◌+◌, ◌*◌, ◌<◌, ◌≤◌, Bool, length, All, IsTrue}
+use Rattle.std.specs.Prelude.{All, Bool, IsTrue, length, true, ℕ, ◌*◌, ◌+◌, ◌<◌, ◌≡◌, ◌≤◌}
 use Rattle.sc_tac.specs.declared.frame.FrameTree.{FrameTree}
 use Rattle.sc_tac.specs.declared.function.TacFnTree.{TacFnTree}
 use Rattle.sc_emit.specs.Naming.{calls_only, AreReached}
@@ -14,7 +14,8 @@ use Rattle.sc_emit.specs.Layout.{HasRounds}
 use Rattle.sc_emit.specs.Repeating.{RepeatsByRounds}
 
 -- the linked code of a function stands at an address of a compartment, all that it names is where it can be reached, it
--- makes the calls that may be made, its parameters are words, and a turn pays for it
+-- makes the calls that may be made, the compartment has a heap where it uses one, its parameters are words, and a turn
+-- pays for it
 pub record IsPlaced (T : Setting) (comp address : ℕ) (f : TacFnTree) (code : CodeTree) : Type 0 where
   pub image : IsWellFormed T.image
   pub inputs : All IsWord T.inputs
@@ -24,6 +25,7 @@ pub record IsPlaced (T : Setting) (comp address : ℕ) (f : TacFnTree) (code : C
   pub names : IsTrue (everywhere (names_only function entry global) f.body)
   pub calls : IsTrue (everywhere (calls_only (T.makes comp) (T.gives comp)) f.body)
   pub reached : AreReached T comp function entry global
+  pub heap : code.heap ≡ true → has_heap T.image comp ≡ true
   pub words : IsTrue (passes_words f.params f.objects)
   pub paid : length code.instrs ≤ T.turn_pays
   pub stands : CodeAt T.image comp address (linked (T.addresses comp) address code)
@@ -54,6 +56,8 @@ pub record IsEmitted (f : TacFnTree) (frame : FrameTree) (code : CodeTree) : Typ
   -- a branch at most for each `If`
   pub branches : code_branches code ≤ branches f.body
   pub no_ebreak : IsTrue (has_no_ebreak code)
+  -- it is marked where it uses the heap
+  pub heap : code.heap ≡ uses_heap f.body
   -- relocations name what statements name
   pub names : (function : ℕ → Bool) (entry : (comp index : ℕ) → Bool) (global : ℕ → Bool) →
       IsTrue (everywhere (names_only function entry global) f.body) → IsTrue (refers_only function entry global code)

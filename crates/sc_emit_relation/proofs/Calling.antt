@@ -1,21 +1,25 @@
 -- A call of a function, from its first instruction to its jump back: what its code begins with, and what is left of it.
-use Rattle.sc_emit_relation.proofs.Common.{Activation, All, Begins, BlocksMatch, ByteMemory as Bytes, Cell, Effect}
-use Rattle.sc_emit_relation.proofs.Common.{FrameFits, FrameMatches, FrameTree, Function, IsActivation, IsFrame, IsLeft}
-use Rattle.sc_emit_relation.proofs.Common.{IsWellFormed, IsWord, Joint, Leads, List, LiveAt, Option, Place, Placed}
-use Rattle.sc_emit_relation.proofs.Common.{Plan, Protected, Ready, Registers, Returns, Setting, Settled, Some}
-use Rattle.sc_emit_relation.proofs.Common.{Standpoint, StandsFor, State as Meant, TempSet, Value, Walks, a0, ap, arith}
-use Rattle.sc_emit_relation.proofs.Common.{begun, cases_eq, data_start, done, eq-eqb, false, inl, inr, length, machine}
-use Rattle.sc_emit_relation.proofs.Common.{ne_eqb, no_temps, put, refl, same_Some, seen_from, slice_get}
-use Rattle.sc_emit_relation.proofs.Common.{slice_get_within, sp, stack_depth, stack_size, stack_top, subst, sym}
-use Rattle.sc_emit_relation.proofs.Common.{then_go, walks_steady, wanted, word, zone_start, ℕ, ⊎_elim, ◌%◌, ◌+◌, ◌<◌}
-use Rattle.sc_emit_relation.proofs.Common.{◌∙◌, ◌≡◌, ◌≢◌, ◌≤◌, ◌⊎◌}
+use Rattle.sc_emit_relation.proofs.Common.{Activation, All, Begins, Block, BlocksMatch, ByteMemory as Bytes, Cell}
+use Rattle.sc_emit_relation.proofs.Common.{Effect, FrameFits, FrameMatches, FrameTree, Function, IsActivation, IsFrame}
+use Rattle.sc_emit_relation.proofs.Common.{IsLeft, IsWellFormed, IsWord, Joint, Leads, LiesAt, List, LiveAt, None}
+use Rattle.sc_emit_relation.proofs.Common.{Option, Place, Placed, Plan, Protected, Ready, Registers, Returns, Setting}
+use Rattle.sc_emit_relation.proofs.Common.{Settled, Some, Standpoint, StandsFor, State as Meant, TempSet, Value, Walks}
+use Rattle.sc_emit_relation.proofs.Common.{ℕ, [], a0, ap, arith, begun, blocks_for, cases_eq, data_start, done, ended}
+use Rattle.sc_emit_relation.proofs.Common.{eq-eqb, false, inl, inr, is_there, length, machine, ne_eqb, no_temps, put}
+use Rattle.sc_emit_relation.proofs.Common.{refl, same_Some, seen_from, slice_get, slice_get_within, sp, stack_depth}
+use Rattle.sc_emit_relation.proofs.Common.{stack_size, stack_top, subst, sym, then_go, true, walks_steady, wanted, word}
+use Rattle.sc_emit_relation.proofs.Common.{zone_start, ⊎_elim, ◌%◌, ◌*◌, ◌++◌, ◌+◌, ◌-◌, ◌<◌, ◌∙◌, ◌≡◌, ◌≢◌, ◌≤◌, ◌⊎◌}
+use Rattle.std.specs.Prelude.{slice_index_or}
+use Rattle.sc_core.specs.Prelude.{spans_of}
 use Rattle.sc_emit_relation.proofs.Access.{live_within}
-use Rattle.sc_emit_relation.proofs.Ending.{lives_on, length_closed, LivesOn, depth_begun, depth_begun_else, depth_done}
-use Rattle.sc_emit_relation.proofs.Ending.{depth_done_else, timed_closed, timed_opened}
+use Rattle.sc_emit_relation.proofs.Ending.{LivesOn, depth_begun, depth_begun_else, depth_done, depth_done_else}
+use Rattle.sc_emit_relation.proofs.Ending.{length_closed, lives_on, stays_on, timed_closed, timed_opened}
+use Rattle.sc_emit_relation.proofs.Frames.{object_inside, object_there}
 use Rattle.sc_emit_relation.proofs.Held.{held_at_entry}
-use Rattle.sc_emit_relation.proofs.Opening.{Prepared, injection_opened, other_range, lived_before, blocks_opened}
-use Rattle.sc_emit_relation.proofs.Opening.{injection_grows, own_guarded, above_guarded, objects_placed, length_opened}
+use Rattle.sc_emit_relation.proofs.Opening.{Prepared, above_guarded, blocks_opened, injection_grows, injection_opened}
+use Rattle.sc_emit_relation.proofs.Opening.{length_opened, lived_before, objects_placed, other_range, own_guarded}
 use Rattle.sc_emit_relation.proofs.Coming.{came_by}
+use Rattle.sc_emit_relation.proofs.Spans.{spans_begun, spans_elsewhere, spans_ended, zone_on}
 
 -- a call of a function that begins here, with its frame from this address on
 abbrev pub activated : Standpoint → Joint → FrameTree → (low ra_is : ℕ) → Activation
@@ -151,6 +155,10 @@ module _ (T : Setting) (formed : IsWellFormed T.image) (inputs : All IsWord T.in
             args places nodes whole frame_fits begins.settled.blocks prepared;
         globals = λ k number honest l. grows k number _ (begins.settled.globals k number honest l);
         saved = λ k d honest. begins.settled.saved k d honest ∙ sym (floor_there k d);
+        zones = λ k honest. zone_on (slice_index_or x.zones k []) (slice_index_or x.zones k []) (x.meant.memory k)
+            (y.meant.memory k) (begins.settled.zones k honest) refl
+            (spans_elsewhere P.comp (x.meant.memory P.comp ++ blocks_for f.cells args) x.meant.memory k
+            (spans_begun (x.meant.memory P.comp) f.cells args));
         inputs = begins.settled.inputs;
         steady = walks_steady T.image T.inputs formed inputs n _ _ enters.walks begins.settled.steady;
         came = came_by T n _ _ enters.walks begins.settled.came;
@@ -310,6 +318,30 @@ module _ (T : Setting) (formed : IsWellFormed T.image) (inputs : All IsWord T.in
         placed_closed k b a xs honest h e =
             ⊎_elim (placed_long k b a xs honest e) (placed_far k b a xs honest h e) (lived_long k b xs honest h)
 
+        -- no variable of the call was allocated: its place is in the frame, below the zone
+        variable_place : (b : ℕ) (block : Block) (place : Option ℕ) → block.place ≡ place →
+            slice_get (z.meant.memory P.comp) b ≡ Some block → first ≤ b → b < first + length f.cells →
+            block.live ≡ true → place ≡ None
+        variable_place b block None is at low_b high_b live = refl
+        variable_place b block (Some q) is at low_b high_b live =
+            let b_is : first + (b - first) ≡ b = omega (arith, low_b) in
+            let size = is_there f.cells (b - first) (omega (arith, low_b, high_b)) in
+            let object = object_there f.cells places nodes frame frame_fits (b - first) size.0 size.1 in
+            let at_low : z.inj P.comp b ≡ Some (low + object.0) =
+            ap (z.inj P.comp) (sym b_is) ∙
+            leads.effect.grows P.comp (first + (b - first)) (low + object.0)
+            (frame_entered.objects (b - first) object.0 object.1) in
+            let lies : LiesAt P.comp (low + object.0) (length block.cells) (Some q) =
+            subst (LiesAt P.comp (low + object.0) (length block.cells)) is
+            (settled.blocks.lies P.comp b (low + object.0) block begins.honest at live at_low) in
+            let inside : object.0 + 4 * size.0 ≤ frame.bytes =
+            object_inside f.cells places nodes frame frame_fits (b - first) object.0 size.0 object.1 size.1 in
+            absurd (omega (arith, lies, inside, bound_is, begins.base.high))
+
+        zone_closed : spans_of (ended first (length f.cells) (z.meant.memory P.comp)) ≡ spans_of (z.meant.memory P.comp)
+        zone_closed = spans_ended first (length f.cells) (z.meant.memory P.comp)
+            (λ b block at low_b high_b live. variable_place b block block.place refl at low_b high_b live)
+
         blocks_closed : BlocksMatch T.image T.performs P.floor z.inj end.meant.memory z.bytes
         blocks_closed = record {
           there = λ k b xs honest h. settled.blocks.there k b xs honest (now_live k b xs h);
@@ -318,6 +350,8 @@ module _ (T : Setting) (formed : IsWellFormed T.image) (inputs : All IsWord T.in
               settled.blocks.holds k b a i xs c honest (now_live k b xs h) e get;
           apart = λ k b d a e xs ys honest l m p q other.
               settled.blocks.apart k b d a e xs ys honest (now_live k b xs l) (now_live k d ys m) p q other;
+          lies = λ k b a block honest h live e. settled.blocks.lies k b a block honest
+              (stays_on P.comp first (length f.cells) z.meant.memory k b block h live).at live e;
           known = λ k b a e. subst (λ m. b < m) (sym (length_closed P.comp first (length f.cells) z.meant.memory k))
               (settled.blocks.known k b a e);
         }
@@ -327,6 +361,10 @@ module _ (T : Setting) (formed : IsWellFormed T.image) (inputs : All IsWord T.in
           blocks = blocks_closed;
           globals = settled.globals;
           saved = λ k d honest. settled.saved k d honest ∙ floor_there k d;
+          zones = λ k honest. zone_on (slice_index_or z.zones k []) (slice_index_or z.zones k []) (z.meant.memory k)
+              (end.meant.memory k) (settled.zones k honest) refl
+              (spans_elsewhere P.comp (ended first (length f.cells) (z.meant.memory P.comp)) z.meant.memory k
+              zone_closed);
           inputs = settled.inputs;
           steady = settled.steady;
           came = settled.came;

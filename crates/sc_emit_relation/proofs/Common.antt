@@ -33,11 +33,11 @@ pub use Rattle.sc_store.specs.Prelude.{ByteMemory}
 pub use Rattle.sc_image.specs.Prelude.{IsWellFormed, IsWord, Traps, Walks, data_start, stack_size, stack_top, step}
 pub use Rattle.sc_image.specs.Prelude.{word_at, zone_start}
 pub use Rattle.sc_tac.specs.Prelude.{Codes, FrameFits, InSlot, IsClear, IsFrame, Lives, Point, Range, TempSet, Temps}
-pub use Rattle.sc_tac.specs.Prelude.{Trail}
-pub use Rattle.sc_tac.specs.Prelude.{ahead_at, end_of, in_body, in_head, in_next, is_comparison, is_one, is_pointer}
-pub use Rattle.sc_tac.specs.Prelude.{is_unsigned, known, live_across, live_at_start, live_before, loop_points, no_temps}
-pub use Rattle.sc_tac.specs.Prelude.{object_range, one_or_none, operated, part_ahead, plain_points, point, ranges_of}
-pub use Rattle.sc_tac.specs.Prelude.{read, readings, row_first, row_points, takes_two, trail_step, with_temp}
+pub use Rattle.sc_tac.specs.Prelude.{Trail, ahead_at, end_of, in_body, in_head, in_next, is_comparison, is_one}
+pub use Rattle.sc_tac.specs.Prelude.{is_pointer, is_unsigned, known, live_across, live_at_start, live_before}
+pub use Rattle.sc_tac.specs.Prelude.{loop_points, no_temps, object_range, one_or_none, operated, part_ahead}
+pub use Rattle.sc_tac.specs.Prelude.{plain_points, point, ranges_of, read, readings, row_first, row_points, takes_two}
+pub use Rattle.sc_tac.specs.Prelude.{trail_step, with_temp}
 pub use Rattle.sc_tac.specs.declared.frame.FrameTree.{FrameTree}
 pub use Rattle.sc_tac.specs.declared.place.Place.TheVariants.{Register, Slot}
 pub use Rattle.sc_emit_select.specs.Prelude.{Addresses, Line, Plan, a0, a7, address_scratch, branch_back, branch_reach}
@@ -57,6 +57,7 @@ pub use Rattle.sc_emit_relation.specs.Prelude.{Activation, AreInPlace, Arrives, 
 pub use Rattle.sc_emit_relation.specs.Prelude.{Comes, ComesBack, Costs, Effect, Emits, Ends, ExitGives, Follows}
 pub use Rattle.sc_emit_relation.specs.Prelude.{FrameMatches, FunctionGives, Gives, Guarded, InCell, InPlace, Injection}
 pub use Rattle.sc_emit_relation.specs.Prelude.{IsActivation, IsAddress, IsElement, IsInPlace, IsLeft, IsSound, Joint}
-pub use Rattle.sc_emit_relation.specs.Prelude.{Leads, LiveAt, Means, Overflows, Placed, Protected, Ready, Returns}
-pub use Rattle.sc_emit_relation.specs.Prelude.{ReturnsValue, Running, Setting, Settled, Standpoint, StandsAt, StandsFor}
-pub use Rattle.sc_emit_relation.specs.Prelude.{Starts, ends_of, machine, own_words, row, seen_from, wanted, world_at}
+pub use Rattle.sc_emit_relation.specs.Prelude.{Leads, LiesAt, LiveAt, Means, Overflows, Placed, Protected, Ready}
+pub use Rattle.sc_emit_relation.specs.Prelude.{Returns, ReturnsValue, Running, Setting, Settled, Standpoint, StandsAt}
+pub use Rattle.sc_emit_relation.specs.Prelude.{StandsFor, Starts, ZoneMatches, ends_of, machine, own_words, row}
+pub use Rattle.sc_emit_relation.specs.Prelude.{seen_from, wanted, world_at}

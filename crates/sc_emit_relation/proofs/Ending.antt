@@ -1,30 +1,32 @@
 -- A call ends: its blocks no longer live, and the stack depth is less by its frame size.
-use Rattle.sc_emit_relation.proofs.Common.{AllBefore, Blocks, Bool, Cell, Closed, FrameChange, Function, List, LiveAt}
-use Rattle.sc_emit_relation.proofs.Common.{Opened, State as Meant, Value, [], ap, arith, begun, cases_eq, cells_at}
-use Rattle.sc_emit_relation.proofs.Common.{depth_after, done, ended, eq-eqb, false, if◌then◌else◌, inl, inr, length}
-use Rattle.sc_emit_relation.proofs.Common.{ne_eqb, refl, stack_depth, suc, sym, true, with_blocks, zero, ℕ, ⊎_elim}
-use Rattle.sc_emit_relation.proofs.Common.{◌++◌, ◌+◌, ◌-◌, ◌<◌, ◌==◌, ◌∙◌, ◌∷◌, ◌≡◌, ◌≢◌, ◌≤◌, ◌⊎◌}
+use Rattle.sc_emit_relation.proofs.Common.{AllBefore, Block, Blocks, Bool, Cell, Closed, FrameChange, Function, List}
+use Rattle.sc_emit_relation.proofs.Common.{LiveAt, Ok, Opened, Some, State as Meant, Value, ℕ, [], ap, arith, begun}
+use Rattle.sc_emit_relation.proofs.Common.{cases_eq, depth_after, done, ended, eq-eqb, false, if◌then◌else◌, inl, inr}
+use Rattle.sc_emit_relation.proofs.Common.{length, ne_eqb, refl, same_Some, slice_get, stack_depth, suc, sym, true}
+use Rattle.sc_emit_relation.proofs.Common.{with_blocks, zero, ⊎_elim, ◌++◌, ◌+◌, ◌-◌, ◌<◌, ◌==◌, ◌∙◌, ◌∷◌, ◌≡◌, ◌≢◌}
+use Rattle.sc_emit_relation.proofs.Common.{◌≤◌, ◌⊎◌}
 use Rattle.sc_core.specs.Prelude.{Memory}
-use Rattle.sc_emit_relation.proofs.Access.{LivesIn}
+use Rattle.sc_emit_relation.proofs.Access.{LivingBlock, alive, living_block}
 
 -- a block that lives once some have ended lived before, and is none of these
-pub record StillLives (blocks : Blocks) (first count b : ℕ) (cells : List Cell) : Type 0 where
-  pub live : LivesIn blocks b cells
+pub record StillLives (blocks : Blocks) (first count b : ℕ) (block : Block) : Type 0 where
+  pub at : slice_get blocks b ≡ Some block
   pub other : (b < first) ⊎ (first + count ≤ b)
 
-pub still_lives : (first count : ℕ) (blocks : Blocks) (b : ℕ) (cells : List Cell) →
-    LivesIn (ended first count blocks) b cells → StillLives blocks first count b cells
-still_lives zero zero blocks b cells h = record { live = h; other = inr (omega arith) }
-still_lives zero (suc count) [] b cells h = cc h
-still_lives zero (suc count) (x ∷ xs) zero cells h = cc h
-still_lives zero (suc count) (x ∷ xs) (suc b) cells h =
-    let r : StillLives xs zero count b cells = still_lives zero count xs b cells h in
-    record { live = r.live; other = ⊎_elim (λ l. absurd (omega (arith, l))) (λ l. inr (omega (arith, l))) r.other }
-still_lives (suc first) count [] b cells h = cc h
-still_lives (suc first) count (x ∷ xs) zero cells h = record { live = h; other = inl (omega arith) }
-still_lives (suc first) count (x ∷ xs) (suc b) cells h =
-    let r : StillLives xs first count b cells = still_lives first count xs b cells h in
-    record { live = r.live; other = ⊎_elim (λ l. inl (omega (arith, l))) (λ l. inr (omega (arith, l))) r.other }
+pub still_lives : (first count : ℕ) (blocks : Blocks) (b : ℕ) (block : Block) →
+    slice_get (ended first count blocks) b ≡ Some block → block.live ≡ true → StillLives blocks first count b block
+still_lives zero zero blocks b block h live = record { at = h; other = inr (omega arith) }
+still_lives zero (suc count) [] b block h live = cc h
+still_lives zero (suc count) (x ∷ xs) zero block h live =
+    let over : false ≡ true = ap (λ (y : Block). y.live) (same_Some _ block h) ∙ live in cc over
+still_lives zero (suc count) (x ∷ xs) (suc b) block h live =
+    let r : StillLives xs zero count b block = still_lives zero count xs b block h live in
+    record { at = r.at; other = ⊎_elim (λ l. absurd (omega (arith, l))) (λ l. inr (omega (arith, l))) r.other }
+still_lives (suc first) count [] b block h live = cc h
+still_lives (suc first) count (x ∷ xs) zero block h live = record { at = h; other = inl (omega arith) }
+still_lives (suc first) count (x ∷ xs) (suc b) block h live =
+    let r : StillLives xs first count b block = still_lives first count xs b block h live in
+    record { at = r.at; other = ⊎_elim (λ l. inl (omega (arith, l))) (λ l. inr (omega (arith, l))) r.other }
 
 pub length_ended : (first count : ℕ) (blocks : Blocks) → length (ended first count blocks) ≡ length blocks
 length_ended zero zero blocks = refl
@@ -44,21 +46,34 @@ module _ (c first count : ℕ) (memory : Memory) where
   closed_there : (k : ℕ) → k ≢ c → memory_closed c first count memory k ≡ memory k
   closed_there k n = rw (ne_eqb k c n) refl
 
+  -- a block that lives afterwards was there, and is none of those that have ended
+  pub record StaysOn (k b : ℕ) (block : Block) : Type 0 where
+    pub at : slice_get (memory k) b ≡ Some block
+    pub other : k ≡ c → (b < first) ⊎ (first + count ≤ b)
+
+  pub stays_on : (k b : ℕ) (block : Block) → slice_get (memory_closed c first count memory k) b ≡ Some block →
+      block.live ≡ true → StaysOn k b block
+  stays_on k b block h live = ⊎_elim
+      (λ e. (let r : StillLives (memory c) first count b block =
+      still_lives first count (memory c) b block (sym (ap (λ bs. slice_get bs b) (closed_here k e)) ∙ h) live in
+      let back : StaysOn k b block =
+      record { at = ap (λ k. slice_get (memory k) b) e ∙ r.at; other = λ same. r.other } in back))
+      (λ n. (let back : StaysOn k b block = record {
+        at = sym (ap (λ bs. slice_get bs b) (closed_there k n)) ∙ h;
+        other = λ same. absurd (n same);
+      } in back)) (cases_eq k c)
+
   pub record LivesOn (k b : ℕ) (cells : List Cell) : Type 0 where
     pub live : LiveAt memory k b cells
     pub other : k ≡ c → (b < first) ⊎ (first + count ≤ b)
 
   pub lives_on : (k b : ℕ) (cells : List Cell) → LiveAt (memory_closed c first count memory) k b cells →
       LivesOn k b cells
-  lives_on k b cells h = ⊎_elim
-      (λ e. (let r : StillLives (memory c) first count b cells =
-      still_lives first count (memory c) b cells (sym (ap (λ bs. cells_at bs b) (closed_here k e)) ∙ h) in
-      let back : LivesOn k b cells =
-      record { live = ap (λ k. cells_at (memory k) b) e ∙ r.live; other = λ same. r.other } in back))
-      (λ n. (let back : LivesOn k b cells = record {
-        live = sym (ap (λ bs. cells_at bs b) (closed_there k n)) ∙ h;
-        other = λ same. absurd (n same);
-      } in back)) (cases_eq k c)
+  lives_on k b cells h =
+      let found : LivingBlock (memory_closed c first count memory k) b cells =
+      living_block (memory_closed c first count memory k) b cells h in
+      let on : StaysOn k b found.block = stays_on k b found.block found.at found.live in
+      record { live = alive (memory k) b found.block on.at found.live ∙ ap Ok found.its; other = on.other }
 
   pub length_closed : (k : ℕ) → length (memory_closed c first count memory k) ≡ length (memory k)
   length_closed k = ⊎_elim

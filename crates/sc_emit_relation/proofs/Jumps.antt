@@ -59,6 +59,7 @@ module _ {T : Setting} {R : Running} (valid : IsRunning T R) where
       blocks = ready.settled.blocks;
       globals = ready.settled.globals;
       saved = ready.settled.saved;
+      zones = ready.settled.zones;
       inputs = ready.settled.inputs;
       steady =
           walks_steady T.image T.inputs valid.formed valid.inputs leads.steps (machine P x)

@@ -1,5 +1,7 @@
 pub mod Common
 pub mod Access
+pub mod Allocating
+pub mod Asking
 pub mod Assigning
 pub mod Calling
 pub mod Clear
@@ -7,9 +9,11 @@ pub mod Coming
 pub mod Ending
 pub mod Following
 pub mod Frames
+pub mod Freeing
 pub mod Functions
 pub mod Held
 pub mod Jumps
+pub mod Laying
 pub mod Lines
 pub mod Linking
 pub mod Loops
@@ -22,6 +26,7 @@ pub mod Rounds
 pub mod Rows
 pub mod Running
 pub mod Settling
+pub mod Spans
 pub mod Storing
 pub mod Straight
 pub mod Stretches

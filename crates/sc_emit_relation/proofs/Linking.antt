@@ -1,5 +1,5 @@
 -- Code as the linker completes it by its relocations is what it completes line by line.
-use Rattle.sc_emit_relation.proofs.Common.{Addresses, Instr, Line, List, None, Option, Some, [], ap, ap₂, arith}
+use Rattle.sc_emit_relation.proofs.Common.{Addresses, Bool, Instr, Line, List, None, Option, Some, [], ap, ap₂, arith}
 use Rattle.sc_emit_relation.proofs.Common.{code_of_lines, completed, eq-eqb, linked, linked_from, low_of_target, map}
 use Rattle.sc_emit_relation.proofs.Common.{ne_eqb, refl, relocation_of, relocations_after, relocations_from, suc}
 use Rattle.sc_emit_relation.proofs.Common.{target_at, with_low, with_target, ℕ, ◌++◌, ◌+◌, ◌<◌, ◌∙◌, ◌∷◌, ◌≡◌}
@@ -52,6 +52,6 @@ module _ (A : Addresses) where
       ap (λ is. with_low low (with_target A pc line.target line.instr) ∷ is)
       (linked_lines (pc + 4) (suc at) (low_of_target A line.target) lines)
 
-  pub linked_is : (address : ℕ) (lines : List Line) → linked A address (code_of_lines
-      lines) ≡ completed A address None lines
-  linked_is address lines = linked_lines address 0 None lines
+  pub linked_is : (heap : Bool) (address : ℕ) (lines : List Line) →
+      linked A address (code_of_lines heap lines) ≡ completed A address None lines
+  linked_is heap address lines = linked_lines address 0 None lines

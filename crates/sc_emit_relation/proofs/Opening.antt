@@ -1,21 +1,22 @@
 -- A call begins: its blocks, their places in its frame, and how the bytes stand for all blocks then.
 use Rattle.sc_emit_relation.proofs.Common.{Block, BlocksMatch, Bool, ByteMemory as Bytes, Cell, FrameFits, FrameTree}
-use Rattle.sc_emit_relation.proofs.Common.{Guarded, ImageParts, InCell, Injection, IsFrame, List, LiveAt, None, Ok}
-use Rattle.sc_emit_relation.proofs.Common.{Option, Owned, Place, Placed, Some, StandsFor, Value, [], all_at, ap, arith}
-use Rattle.sc_emit_relation.proofs.Common.{blocks_for, cases_eq, cases_lt, cases_order, cell_of, cells_at, data_start}
+use Rattle.sc_emit_relation.proofs.Common.{Guarded, ImageParts, InCell, Injection, IsFrame, LiesAt, List, LiveAt, None}
+use Rattle.sc_emit_relation.proofs.Common.{Ok, Option, Owned, Place, Placed, Some, StandsFor, Value, ℕ, [], all_at, ap}
+use Rattle.sc_emit_relation.proofs.Common.{arith, blocks_for, cases_eq, cases_lt, cases_order, cell_of, data_start}
 use Rattle.sc_emit_relation.proofs.Common.{eq-eqb, false, get_prefix, if◌then◌else◌, inl, inr, le-leb, length}
-use Rattle.sc_emit_relation.proofs.Common.{length-append, live_cells, lt-leb, nat_eq, nat_le, ne_eqb, own_words, put}
-use Rattle.sc_emit_relation.proofs.Common.{refl, replicate, same_Some, slice_get, slice_get_within, stack_top, subst}
-use Rattle.sc_emit_relation.proofs.Common.{suc, sym, variable, with_blocks, word, zero, ℕ, ⊎_elim, ◌%◌, ◌&&◌, ◌*◌, ◌++◌}
-use Rattle.sc_emit_relation.proofs.Common.{◌+◌, ◌-◌, ◌<◌, ◌∙◌, ◌∷◌, ◌≡◌, ◌≢◌, ◌≤◌, ◌⊎◌}
+use Rattle.sc_emit_relation.proofs.Common.{length-append, lt-leb, nat_eq, nat_le, ne_eqb, own_words, put, refl}
+use Rattle.sc_emit_relation.proofs.Common.{replicate, same_Some, slice_get, slice_get_within, stack_top, subst, subst₂}
+use Rattle.sc_emit_relation.proofs.Common.{suc, sym, true, variable, with_blocks, word, zero, ⊎_elim, ◌%◌, ◌&&◌, ◌*◌}
+use Rattle.sc_emit_relation.proofs.Common.{◌++◌, ◌+◌, ◌-◌, ◌<◌, ◌∙◌, ◌∷◌, ◌≡◌, ◌≢◌, ◌≤◌, ◌⊎◌}
 use Rattle.sc_core.specs.Prelude.{Memory}
 use Rattle.std.specs.Option.{option_map}
 use Rattle.sc_core.specs.declared.value.Cell.TheVariants as cell
 use Rattle.sc_emit_hart.proofs.Words.{stack_data, stack_owned}
-use Rattle.sc_emit_relation.proofs.Access.{LivingBlock, living_block}
-use Rattle.sc_emit_relation.proofs.Frames.{get_back, own_inside, object_there, object_inside, objects_apart, own_beside}
+use Rattle.sc_emit_relation.proofs.Access.{LivingBlock, alive, living_block}
+use Rattle.sc_emit_relation.proofs.Frames.{get_back, object_inside, object_there, objects_apart, own_beside, own_inside}
 use Rattle.sc_emit_relation.proofs.Held.{Grows, stands_more}
-use Rattle.sc_emit_relation.proofs.Storing.{in_cell, block_owned}
+use Rattle.sc_emit_relation.proofs.Spans.{length_blank}
+use Rattle.sc_emit_relation.proofs.Storing.{block_owned, in_cell}
 
 -- a word of other data lies outside a part of a stack
 pub other_range : (image : ImageParts) (k c q low bytes : ℕ) → k ≢ c → Owned image k q → data_start c ≤ low →
@@ -29,6 +30,7 @@ other_range image k c q low bytes n o start high =
 pub record New (cells : List ℕ) (args : List Value) (o : ℕ) (block : Block) : Type 0 where
   pub size : ℕ
   pub its : slice_get cells o ≡ Some size
+  pub place_is : block.place ≡ None
   pub holds : ((v : Value) × (slice_get args o ≡ Some v) × (block.cells ≡ cell_of v ∷ [])) ⊎
       (block.cells ≡ replicate size cell.Undef)
 
@@ -37,36 +39,38 @@ new_block : (cells : List ℕ) (args : List Value) (o : ℕ) (block : Block) →
 new_block [] args o block h = cc h
 new_block (n ∷ cells) [] zero block h =
     let e : variable (replicate n cell.Undef) ≡ block = same_Some _ block h in
-    record { size = n; its = refl; holds = inr (sym (ap (λ b. b.cells) e)) }
+    record { size = n; its = refl; place_is = sym (ap (λ b. b.place) e); holds = inr (sym (ap (λ b. b.cells) e)) }
 new_block (n ∷ cells) [] (suc o) block h =
     let r : New cells [] o block = new_block cells [] o block h in
     record {
       size = r.size;
       its = r.its;
+      place_is = r.place_is;
       holds = ⊎_elim (λ p. (let none : ◌≡◌ {A = Option Value} None (Some p.0) = p.1 in cc none)) (λ q. inr q) r.holds;
     }
 new_block (n ∷ cells) (v ∷ args) zero block h =
     let e : variable (cell_of v ∷ []) ≡ block = same_Some _ block h in
-    record { size = n; its = refl; holds = inl (v, refl, sym (ap (λ b. b.cells) e)) }
+    record {
+      size = n;
+      its = refl;
+      place_is = sym (ap (λ b. b.place) e);
+      holds = inl (v, refl, sym (ap (λ b. b.cells) e));
+    }
 new_block (n ∷ cells) (v ∷ args) (suc o) block h =
     let r : New cells args o block = new_block cells args o block h in
-    record { size = r.size; its = r.its; holds = r.holds }
+    record { size = r.size; its = r.its; place_is = r.place_is; holds = r.holds }
 
 pub length_blocks : (cells : List ℕ) (args : List Value) → length (blocks_for cells args) ≡ length cells
 length_blocks [] args = refl
 length_blocks (n ∷ cells) [] = ap suc (length_blocks cells [])
 length_blocks (n ∷ cells) (v ∷ args) = ap suc (length_blocks cells args)
 
-no_cell : (n i : ℕ) (c : Cell) → slice_get (replicate n cell.Undef) i ≡ Some c → cell.Undef ≡ c
+pub no_cell : (n i : ℕ) (c : Cell) → slice_get (replicate n cell.Undef) i ≡ Some c → cell.Undef ≡ c
 no_cell zero i c h = cc h
 no_cell (suc n) zero c h = same_Some cell.Undef c h
 no_cell (suc n) (suc i) c h = no_cell n i c h
 
-length_none : (n : ℕ) → length (replicate n cell.Undef) ≡ n
-length_none zero = refl
-length_none (suc n) = ap suc (length_none n)
-
-more_cell : (place more : ℕ → Option ℕ) → Grows place more → (w : ℕ) (c : Cell) → InCell place w c → InCell more w c
+pub more_cell : (place more : ℕ → Option ℕ) → Grows place more → (w : ℕ) (c : Cell) → InCell place w c → InCell more w c
 more_cell place more grows w cell.Undef h = tt
 more_cell place more grows w (cell.Word n) h = stands_more place more grows w _ h
 more_cell place more grows w cell.Null h = stands_more place more grows w _ h
@@ -133,29 +137,39 @@ module _ (image : ImageParts) (performs : ℕ → Bool) (floor : ℕ → ℕ) (i
   opened_there : (k : ℕ) → k ≢ c → opened k ≡ memory k
   opened_there k n = rw (ne_eqb k c n) refl
 
-  origin_here : (k b : ℕ) (xs : List Cell) → LiveAt opened k b xs → k ≡ c → Origin k b xs
-  origin_here k b xs h e =
-      let now : cells_at (memory c ++ blocks_for cells args) b ≡ Ok xs =
-      sym (ap (λ bs. cells_at bs b) (opened_here k e)) ∙ h in
+  -- a block afterwards was there, or is new
+  data Whence (k b : ℕ) (block : Block) : Type 0 where
+    Before : slice_get (memory k) b ≡ Some block → more k b ≡ inj k b → Whence k b block
+    Now : (o : ℕ) → k ≡ c → b ≡ first + o → New cells args o block → Whence k b block
+
+  whence_here : (k b : ℕ) (block : Block) → slice_get (opened k) b ≡ Some block → k ≡ c → Whence k b block
+  whence_here k b block h e =
+      let now : slice_get (memory c ++ blocks_for cells args) b ≡ Some block =
+      sym (ap (λ bs. slice_get bs b) (opened_here k e)) ∙ h in
       ⊎_elim
-      (λ l. Old (ap (λ k. cells_at (memory k) b) e ∙
-      sym (ap live_cells (get_prefix (memory c) (blocks_for cells args) b l)) ∙ now)
-      (injection_old k b (λ e. l)))
+      (λ l. Before (ap (λ k. slice_get (memory k) b) e ∙
+      sym (get_prefix (memory c) (blocks_for cells args) b l) ∙ now) (injection_old k b (λ e. l)))
       (λ past. (let place : first + (b - first) ≡ b = omega (arith, past) in
-      let found : LivingBlock (memory c ++ blocks_for cells args) b xs =
-      living_block (memory c ++ blocks_for cells args) b xs now in
-      let got : slice_get (blocks_for cells args) (b - first) ≡ Some found.block =
+      let got : slice_get (blocks_for cells args) (b - first) ≡ Some block =
       sym (get_back (memory c) (blocks_for cells args) (b - first)) ∙
-      ap (slice_get (memory c ++ blocks_for cells args)) place ∙ found.at in
-      Fresh (b - first) found.block e (sym place) (new_block cells args (b - first) found.block got)
-      (sym found.its)))
+      ap (slice_get (memory c ++ blocks_for cells args)) place ∙ now in
+      Now (b - first) e (sym place) (new_block cells args (b - first) block got)))
       (cases_lt b first)
+
+  whence : (k b : ℕ) (block : Block) → slice_get (opened k) b ≡ Some block → Whence k b block
+  whence k b block h =
+      ⊎_elim (whence_here k b block h)
+      (λ n. Before (sym (ap (λ bs. slice_get bs b) (opened_there k n)) ∙ h) (injection_old k b (λ e. absurd (n e))))
+      (cases_eq k c)
+
+  origin_of : (k b : ℕ) (xs : List Cell) (found : LivingBlock (opened k) b xs) → Whence k b found.block → Origin k b xs
+  origin_of k b xs found (Before at e) = Old (alive (memory k) b found.block at found.live ∙ ap Ok found.its) e
+  origin_of k b xs found (Now o ek eb new) = Fresh o found.block ek eb new (sym found.its)
 
   origin : (k b : ℕ) (xs : List Cell) → LiveAt opened k b xs → Origin k b xs
   origin k b xs h =
-      ⊎_elim (origin_here k b xs h)
-      (λ n. Old (sym (ap (λ bs. cells_at bs b) (opened_there k n)) ∙ h) (injection_old k b (λ e. absurd (n e))))
-      (cases_eq k c)
+      let found : LivingBlock (opened k) b xs = living_block (opened k) b xs h in
+      origin_of k b xs found (whence k b found.block found.at)
 
   -- an old block that lives afterwards lived before
   pub lived_before : (k b : ℕ) (xs : List Cell) → LiveAt opened k b xs → (k ≡ c → b < first) → LiveAt memory k b xs
@@ -189,7 +203,7 @@ module _ (image : ImageParts) (performs : ℕ → Bool) (floor : ℕ → ℕ) (i
     fits_by o block xs new ex = ⊎_elim
         (λ p. (let long : length xs ≡ 1 = ap length (ex ∙ p.2) in
         omega (arith, long, ready.params o new.size (slice_get_within args o p.0 p.1) new.its)))
-        (λ q. (let long : length xs ≡ new.size = ap length (ex ∙ q) ∙ length_none new.size in omega (arith, long)))
+        (λ q. (let long : length xs ≡ new.size = ap length (ex ∙ q) ∙ length_blank new.size in omega (arith, long)))
         new.holds
 
     object_of : (o : ℕ) (block : Block) (xs : List Cell) → New cells args o block → xs ≡ block.cells → HasObject o xs
@@ -346,6 +360,15 @@ module _ (image : ImageParts) (performs : ℕ → Bool) (floor : ℕ → ℕ) (i
         (λ n. subst (λ bs. b < length bs) (sym (opened_there k n))
         (blocks.known k b a (sym (injection_old k b (λ e. absurd (n e))) ∙ is_at))) (cases_eq k c)
 
+    lies_by : (k b a : ℕ) (block : Block) → performs k ≡ false → block.live ≡ true → Whence k b block →
+        more k b ≡ Some a → LiesAt k a (length block.cells) block.place
+    lies_by k b a block s live (Before at e) is_at = blocks.lies k b a block s at live (sym e ∙ is_at)
+    lies_by k b a block s live (Now o ek eb new) is_at =
+        let x : HasObject o block.cells = object_of o block block.cells new refl in
+        let place : low + x.offset ≡ a = fresh_at k b a o x.offset ek eb x.object is_at in
+        subst₂ (λ j p. LiesAt j a (length block.cells) p) (sym ek) (sym new.place_is)
+        (omega (arith, place, x.fits, x.inside, ready.floor_is, ready.high))
+
     -- the bytes stand for all blocks once the entry's code has run
     pub blocks_opened : BlocksMatch image performs lowered more opened later
     blocks_opened = record {
@@ -353,6 +376,7 @@ module _ (image : ImageParts) (performs : ℕ → Bool) (floor : ℕ → ℕ) (i
       placed = λ k b a xs s live e. placed_by k b a xs s (origin k b xs live) e;
       holds = λ k b a i xs x s live e get. holds_by k b a i xs x s (origin k b xs live) e get;
       apart = λ k b d a e xs ys s l m p q n. apart_by k b d a e xs ys s (origin k b xs l) (origin k d ys m) p q n;
+      lies = λ k b a block s h live e. lies_by k b a block s live (whence k b block h) e;
       known = known_by;
     }
 

@@ -301,6 +301,7 @@ module _ (T : Setting) (R : Running) (head body next : Codes) (b n : Code) (hs b
               blocks = ready.settled.blocks;
               globals = ready.settled.globals;
               saved = ready.settled.saved;
+              zones = ready.settled.zones;
               inputs = ready.settled.inputs;
               steady = ready.settled.steady;
               came = ready.settled.came;

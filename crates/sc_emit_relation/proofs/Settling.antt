@@ -3,14 +3,16 @@
 use Rattle.sc_emit_relation.proofs.Common.{Activation, All, Apart, Blocks, ByteMemory as Bytes, FrameMatches}
 use Rattle.sc_emit_relation.proofs.Common.{IsActivation, IsWellFormed, IsWord, Joint, Leads, List, Ok, Place, Pointer}
 use Rattle.sc_emit_relation.proofs.Common.{Protected, Ptr, Registers, Setting, Settled, Some, Standpoint, StandsFor}
-use Rattle.sc_emit_relation.proofs.Common.{Value, Walks, arith, cases_eq, false, inl, inr, machine, own_words, put_word}
-use Rattle.sc_emit_relation.proofs.Common.{refl, seen_from, slice_get, store, walks_steady, with_memory, word}
-use Rattle.sc_emit_relation.proofs.Common.{word_apart, ℕ, ⊎_elim, ◌*◌, ◌+◌, ◌≡◌, ◌≤◌}
+use Rattle.sc_emit_relation.proofs.Common.{Value, Walks, ℕ, arith, cases_eq, false, inl, inr, machine, own_words}
+use Rattle.sc_emit_relation.proofs.Common.{put_word, refl, seen_from, slice_get, store, walks_steady, with_blocks}
+use Rattle.sc_emit_relation.proofs.Common.{with_memory, word, word_apart, ⊎_elim, ◌*◌, ◌+◌, ◌≡◌, ◌≤◌}
+use Rattle.std.specs.Prelude.{[], slice_index_or}
 use Rattle.sc_zone.specs.declared.span.Span.{Span}
 use Rattle.sc_emit_relation.proofs.Frames.{own_inside}
-use Rattle.sc_emit_relation.proofs.Storing.{CellsKept, other_data, blocks_kept, guarded_cells, was, guarded_kept}
-use Rattle.sc_emit_relation.proofs.Storing.{blocks_after}
+use Rattle.sc_emit_relation.proofs.Storing.{CellsKept, blocks_after, blocks_kept, guarded_cells, guarded_kept}
+use Rattle.sc_emit_relation.proofs.Storing.{other_data, was}
 use Rattle.sc_emit_relation.proofs.Coming.{came_by}
+use Rattle.sc_emit_relation.proofs.Spans.{spans_elsewhere, spans_stored, zone_on}
 
 -- both sides, where the code has come to a pc, with these registers and bytes
 abbrev pub moved : Joint → (pc : ℕ) → Registers → Bytes → Joint
@@ -28,12 +30,15 @@ moved_with x comp blocks pc regs bytes =
 module _ (T : Setting) (formed : IsWellFormed T.image) (inputs : All IsWord T.inputs) (P : Standpoint) where
   pub settled_rezoned : (x : Joint) (n pc : ℕ) (regs : Registers) (later : Bytes) (zones : List (List Span)) →
       Settled T P x → CellsKept T.performs x.inj x.meant.memory x.bytes later →
+      ((k : ℕ) → T.performs k ≡ false → slice_index_or zones k [] ≡ slice_index_or x.zones k []) →
       Walks T.image T.inputs n (machine P x) (machine P (rezoned x pc regs later zones)) →
       Settled T P (rezoned x pc regs later zones)
-  settled_rezoned x n pc regs later zones s kept walks = record {
+  settled_rezoned x n pc regs later zones s kept zoned walks = record {
     blocks = blocks_kept s.blocks later kept;
     globals = s.globals;
     saved = s.saved;
+    zones = λ k honest. zone_on (slice_index_or x.zones k []) (slice_index_or zones k []) (x.meant.memory k)
+        (x.meant.memory k) (s.zones k honest) (zoned k honest) refl;
     inputs = s.inputs;
     steady = walks_steady T.image T.inputs formed inputs n _ _ walks s.steady;
     came = came_by T n _ _ walks s.came;
@@ -44,7 +49,8 @@ module _ (T : Setting) (formed : IsWellFormed T.image) (inputs : All IsWord T.in
   pub settled_moved : (x : Joint) (n pc : ℕ) (regs : Registers) (later : Bytes) → Settled T P x →
       CellsKept T.performs x.inj x.meant.memory x.bytes later →
       Walks T.image T.inputs n (machine P x) (machine P (moved x pc regs later)) → Settled T P (moved x pc regs later)
-  settled_moved x n pc regs later s kept walks = settled_rezoned x n pc regs later x.zones s kept walks
+  settled_moved x n pc regs later s kept walks =
+      settled_rezoned x n pc regs later x.zones s kept (λ k honest. refl) walks
 
   -- a stretch that leaves protected words unchanged
   pub leads_rezoned : (x : Joint) (n left pc : ℕ) (regs : Registers) (later : Bytes) (zones : List (List Span)) →
@@ -85,6 +91,9 @@ module _ (T : Setting) (formed : IsWellFormed T.image) (inputs : All IsWord T.in
       blocks = blocks_after s.blocks P.comp a w p v after honest stores is_at stands;
       globals = s.globals;
       saved = s.saved;
+      zones = λ k h. zone_on (slice_index_or x.zones k []) (slice_index_or x.zones k []) (x.meant.memory k)
+          (with_blocks P.comp after x.meant.memory k) (s.zones k h) refl (spans_elsewhere P.comp after x.meant.memory k
+          (spans_stored (x.meant.memory P.comp) after p v stores));
       inputs = s.inputs;
       steady = walks_steady T.image T.inputs formed inputs n _ _ walks s.steady;
       came = came_by T n _ _ walks s.came;

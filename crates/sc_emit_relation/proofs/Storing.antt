@@ -1,15 +1,15 @@
 -- Blocks and guarded words across stores: at a guarded word, and through a pointer to a live cell.
 use Rattle.sc_emit_relation.proofs.Common.{Apart, Beside, Block, Blocks, BlocksMatch, Bool, ByteMemory as Bytes, Cell}
-use Rattle.sc_emit_relation.proofs.Common.{Guarded, ImageParts, InCell, Injection, List, LiveAt, Null, Ok, Option}
-use Rattle.sc_emit_relation.proofs.Common.{Owned, Placed, Pointer, Ptr, Some, StandsFor, Value, Word, ap, apart_from}
-use Rattle.sc_emit_relation.proofs.Common.{arith, cases_eq, cases_order, cell_of, cells_at, eq-eqb, false, inl, inr}
-use Rattle.sc_emit_relation.proofs.Common.{length, length-set, live_cells, load, ne_eqb, put_word, refl, same_Some}
-use Rattle.sc_emit_relation.proofs.Common.{slice_get, slice_get-get_or, slice_get_within, slice_set, store, subst, sym}
-use Rattle.sc_emit_relation.proofs.Common.{with_blocks, word, word_apart, word_same, ℕ, ⊎_elim, ◌*◌, ◌+◌, ◌<◌, ◌∙◌, ◌≡◌}
-use Rattle.sc_emit_relation.proofs.Common.{◌≢◌, ◌≤◌, ◌⊎◌}
+use Rattle.sc_emit_relation.proofs.Common.{Guarded, ImageParts, InCell, Injection, LiesAt, List, LiveAt, Null, Ok}
+use Rattle.sc_emit_relation.proofs.Common.{Option, Owned, Placed, Pointer, Ptr, Some, StandsFor, Value, Word, ℕ, ap}
+use Rattle.sc_emit_relation.proofs.Common.{apart_from, arith, cases_eq, cases_order, cell_of, cells_at, eq-eqb, false}
+use Rattle.sc_emit_relation.proofs.Common.{inl, inr, length, length-set, live_cells, load, ne_eqb, put_word, refl}
+use Rattle.sc_emit_relation.proofs.Common.{same_Some, slice_get, slice_get-get_or, slice_get_within, slice_set, store}
+use Rattle.sc_emit_relation.proofs.Common.{subst, subst₂, sym, true, with_blocks, word, word_apart, word_same, ⊎_elim}
+use Rattle.sc_emit_relation.proofs.Common.{◌*◌, ◌+◌, ◌<◌, ◌∙◌, ◌≡◌, ◌≢◌, ◌≤◌, ◌⊎◌}
 use Rattle.sc_core.specs.Prelude.{Memory}
-use Rattle.sc_emit_relation.proofs.Access.{alive, get_set_same, get_set_other, with_value, Loads, load_found, Stores}
-use Rattle.sc_emit_relation.proofs.Access.{store_found, written_to}
+use Rattle.sc_emit_relation.proofs.Access.{Loads, Stores, alive, get_set_other, get_set_same, load_found, store_found}
+use Rattle.sc_emit_relation.proofs.Access.{with_value, written_to}
 
 -- the data of two compartments don't meet
 pub other_data : (image : ImageParts) (k c p q : ℕ) → k ≢ c → Owned image k p → Owned image c q → Apart p q
@@ -61,6 +61,7 @@ module _ {image : ImageParts} {performs : ℕ → Bool} {floor : ℕ → ℕ} {i
         subst (λ w. InCell (inj k) w c) (sym (h k b a i cells honest live e (slice_get_within cells i c f)))
         (blocks.holds k b a i cells c honest live e f);
     apart = blocks.apart;
+    lies = blocks.lies;
     known = blocks.known;
   }
 
@@ -193,6 +194,46 @@ module _ {image : ImageParts} {performs : ℕ → Bool} {floor : ℕ → ℕ} {i
         ⊎_elim (λ e. ⊎_elim (λ f. was_here k b cells e f h) (λ n. was_there k b cells e n h) (cases_eq b p.block))
         (λ n. was_else k b cells n h) (cases_eq k c)
 
+    -- a block that lives afterwards lived before, with as many cells and at the same place
+    record BlockWas (k b : ℕ) (x : Block) : Type 0 where
+      old : Block
+      at : slice_get (memory k) b ≡ Some old
+      live : old.live ≡ true
+      long : length x.cells ≡ length old.cells
+      place_is : x.place ≡ old.place
+
+    block_written : (k b : ℕ) (x : Block) → k ≡ c → b ≡ p.block → slice_get (after_memory k) b ≡ Some x → BlockWas k b x
+    block_written k b x ek eb h =
+        let same : written ≡ x =
+        same_Some written x (sym (get_set_same (memory c) p.block written _ did.at) ∙
+        sym (ap (λ bs. slice_get bs p.block) (memory_here k ek)) ∙
+        ap (slice_get (after_memory k)) (sym eb) ∙ h) in
+        record {
+          old = did.block;
+          at = ap (slice_get (memory k)) eb ∙ ap (λ k. slice_get (memory k) p.block) ek ∙ did.at;
+          live = did.alive;
+          long = ap (λ (y : Block). length y.cells) (sym same) ∙ length-set did.block.cells p.index (cell_of v);
+          place_is = ap (λ (y : Block). y.place) (sym same);
+        }
+
+    block_same : (k b : ℕ) (x : Block) → slice_get (memory k) b ≡ Some x → x.live ≡ true → BlockWas k b x
+    block_same k b x h live = record { old = x; at = h; live = live; long = refl; place_is = refl }
+
+    block_was : (k b : ℕ) (x : Block) → slice_get (after_memory k) b ≡ Some x → x.live ≡ true → BlockWas k b x
+    block_was k b x h live = ⊎_elim
+        (λ e. ⊎_elim (λ f. block_written k b x e f h)
+        (λ n. block_same k b x (ap (λ k. slice_get (memory k) b) e ∙
+        sym (get_set_other (memory c) p.block b written n) ∙
+        sym (ap (λ bs. slice_get bs b) (memory_here k e)) ∙ h) live)
+        (cases_eq b p.block))
+        (λ n. block_same k b x (sym (ap (λ bs. slice_get bs b) (memory_there k n)) ∙ h) live)
+        (cases_eq k c)
+
+    lies_after : (k b d : ℕ) (x : Block) → performs k ≡ false → BlockWas k b x → inj k b ≡ Some d →
+        LiesAt k d (length x.cells) x.place
+    lies_after k b d x s was e =
+        subst₂ (LiesAt k d) (sym was.long) (sym was.place_is) (blocks.lies k b d was.old s was.at was.live e)
+
     pub guarded_after : (k q : ℕ) → Guarded image inj memory k q → Guarded image inj after_memory k q
     guarded_after k q g = record {
       owned = g.owned;
@@ -269,5 +310,6 @@ module _ {image : ImageParts} {performs : ℕ → Bool} {floor : ℕ → ℕ} {i
           (subst (λ y. (d + 4 * length (was k b xs l).old ≤ e) ⊎ (e + 4 * y ≤ d)) (sym (was k o ys m).long)
           (blocks.apart k b o d e (was k b xs l).old (was k o ys m).old s (was k b xs l).live (was k o ys m).live f
           g n));
+      lies = λ k b d x s h live e. lies_after k b d x s (block_was k b x h live) e;
       known = λ k b d e. subst (λ n. b < n) (sym (same_length k)) (blocks.known k b d e);
     }

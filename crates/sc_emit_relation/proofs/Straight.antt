@@ -77,6 +77,7 @@ module _ (T : Setting) (R : Running) where
     blocks = s.blocks;
     globals = s.globals;
     saved = s.saved;
+    zones = s.zones;
     inputs = s.inputs;
     steady = s.steady;
     came = s.came;
@@ -89,6 +90,7 @@ module _ (T : Setting) (R : Running) where
     blocks = s.blocks;
     globals = s.globals;
     saved = s.saved;
+    zones = s.zones;
     inputs = s.inputs;
     steady = s.steady;
     came = s.came;

@@ -1,13 +1,15 @@
 -- How the bytes of the machine stand for the blocks of a meaning, for every compartment outside a set of those that
 -- perform.
-use Rattle.sc_emit_relation.specs.Common.{Cell, ImageParts, Memory, Owned, Value, cells_at, data_end, data_start, word}
-use Rattle.sc_emit_relation.specs.Common.{zone_start}
+use Rattle.sc_emit_relation.specs.Common.{Block, Blocks, Cell, ImageParts, Memory, Owned, Value, cells_at, data_end}
+use Rattle.sc_emit_relation.specs.Common.{data_start, spans_of, word, zone_address, zone_start}
 unfoldable use Rattle.sc_emit_relation.specs.Common.{are_data}
 use Rattle.sc_store.specs.Prelude.{ByteMemory as Bytes}
-use Rattle.std.specs.Prelude.{◌≡◌, ◌≢◌, ℕ, ◌+◌, ◌*◌, ◌%◌, ◌^◌, ◌<◌, ◌≤◌, ◌⊎◌, Bool, true, false, List, length, Option}
-use Rattle.std.specs.Prelude.{Ok, Some, slice_get}
+use Rattle.sc_zone.specs.Prelude.{AreLaid}
+use Rattle.sc_zone.specs.declared.span.Span.{Span}
+use Rattle.std.specs.Prelude.{Bool, List, None, Ok, Option, Some, ℕ, false, length, slice_get, true, ◌%◌, ◌*◌, ◌+◌, ◌<◌}
+use Rattle.std.specs.Prelude.{◌^◌, ◌≡◌, ◌≢◌, ◌≤◌, ◌⊎◌}
 use Rattle.sc_core.specs.declared.value.Cell.TheVariants as cell
-use Rattle.sc_core.specs.declared.value.Value.TheVariants.{Word, Null, Ptr}
+use Rattle.sc_core.specs.declared.value.Value.TheVariants.{Null, Ptr, Word}
 
 -- where each block of each compartment begins; a block that has ended keeps its address, so this only grows (a memory
 -- injection: Leroy and Blazy, Formal verification of a C-like memory model)
@@ -52,6 +54,11 @@ pub record Placed (image : ImageParts) (floor k a words : ℕ) : Type 0 where
   pub high : a + 4 * words ≤ data_end k
   pub its : (i : ℕ) → i < words → are_data image k (a + 4 * i) 4 ≡ true
 
+-- a variable lies below the zone, in the stack or among the globals; what was allocated lies at its place in the zone
+abbrev pub LiesAt : (k a words : ℕ) → Option ℕ → Type 0
+LiesAt k a words None = a + 4 * words ≤ zone_start k
+LiesAt k a words (Some place) = a ≡ zone_address k (Some place)
+
 -- the floor of a compartment is the frame of its latest open call, or its stack's top where it has none
 pub record BlocksMatch (image : ImageParts) (performs : ℕ → Bool) (floor : ℕ → ℕ) (inj : Injection) (memory : Memory)
     (bytes : Bytes) : Type 0 where
@@ -63,8 +70,16 @@ pub record BlocksMatch (image : ImageParts) (performs : ℕ → Bool) (floor : �
       inj k b ≡ Some a → slice_get cells i ≡ Some c → InCell (inj k) (word bytes (a + 4 * i)) c
   pub apart : (k b c a d : ℕ) (xs ys : List Cell) → performs k ≡ false → LiveAt memory k b xs → LiveAt memory k c ys →
       inj k b ≡ Some a → inj k c ≡ Some d → b ≢ c → (a + 4 * length xs ≤ d) ⊎ (d + 4 * length ys ≤ a)
+  pub lies : (k b a : ℕ) (x : Block) → performs k ≡ false → slice_get (memory k) b ≡ Some x → x.live ≡ true →
+      inj k b ≡ Some a → LiesAt k a (length x.cells) x.place
   -- no block that will begin has an address yet
   pub known : (k b a : ℕ) → inj k b ≡ Some a → b < length (memory k)
+
+-- the machine's zone of a compartment and its blocks: the spans are those of the allocated blocks that live, one after
+-- the other
+pub record ZoneMatches (spans : List Span) (blocks : Blocks) : Type 0 where
+  pub same : spans ≡ spans_of blocks
+  pub laid : AreLaid 0 (spans_of blocks)
 
 -- a word of k's data below its zone that no live block meets, as a saved return address or a slot
 pub record Guarded (image : ImageParts) (inj : Injection) (memory : Memory) (k p : ℕ) : Type 0 where

@@ -1,6 +1,6 @@
 -- What this crate's contracts, its proofs and the crates above cite, passed on from one place. Declares nothing.
-pub use Rattle.sc_emit_relation.specs.Blocks.{Beside, BlocksMatch, Guarded, InCell, Injection, IsAddress, LiveAt, Means}
-pub use Rattle.sc_emit_relation.specs.Blocks.{Placed, StandsFor}
+pub use Rattle.sc_emit_relation.specs.Blocks.{Beside, BlocksMatch, Guarded, InCell, Injection, IsAddress, LiesAt}
+pub use Rattle.sc_emit_relation.specs.Blocks.{LiveAt, Means, Placed, StandsFor, ZoneMatches}
 pub use Rattle.sc_emit_relation.specs.Calls.{ArePassed, Begins, CallGives, CallStands, CallsFollow, ComesBack}
 pub use Rattle.sc_emit_relation.specs.Calls.{FunctionFollows, FunctionGives, GivesValue, IsBase, IsLeft, of_environment}
 pub use Rattle.sc_emit_relation.specs.Calls.{runs_with}

@@ -1,16 +1,15 @@
 -- Stretches of a run on both sides: of the machine, and of a meaning whose state stands beside the machine's.
 use Rattle.sc_emit_relation.specs.Common.{Addresses, AllBefore, CallTarget, Cell, Crossing, Grown, ImageParts}
-use Rattle.sc_emit_relation.specs.Common.{IsSteadyState}
-use Rattle.sc_emit_relation.specs.Common.{Memory, Piece, Registers, State as Meant, Traps, Value, Walks, at, last}
-use Rattle.sc_emit_relation.specs.Common.{stack_depth, stack_size, stack_top, step, word, zone_start}
+use Rattle.sc_emit_relation.specs.Common.{IsSteadyState, Memory, Piece, Registers, State as Meant, Traps, Value, Walks}
+use Rattle.sc_emit_relation.specs.Common.{at, last, stack_depth, stack_size, stack_top, step, word, zone_start}
 use Rattle.sc_emit_hart.specs.Prelude.{LacksRoom, TakesLast, World}
 use Rattle.sc_store.specs.Prelude.{ByteMemory as Bytes}
 use Rattle.sc_image.specs.Prelude.{MachineState}
 use Rattle.sc_zone.specs.declared.span.Span.{Span}
-use Rattle.std.specs.Prelude.{◌≡◌, ◌≢◌, ℕ, suc, ◌+◌, ◌*◌, ◌<◌, ◌≤◌, ◌⊎◌, Bool, false, List, length, drop, Option, None}
-use Rattle.std.specs.Prelude.{Some, slice_index}
+use Rattle.std.specs.Prelude.{Bool, List, None, Option, Some, ℕ, [], drop, false, length, slice_index, slice_index_or}
+use Rattle.std.specs.Prelude.{suc, ◌*◌, ◌+◌, ◌<◌, ◌≡◌, ◌≢◌, ◌≤◌, ◌⊎◌}
 use Rattle.sc_base.specs.declared.stop.TrapReason.TheVariants.{Owner}
-use Rattle.sc_emit_relation.specs.Blocks.{Injection, StandsFor, LiveAt, BlocksMatch, Guarded}
+use Rattle.sc_emit_relation.specs.Blocks.{BlocksMatch, Guarded, Injection, LiveAt, StandsFor, ZoneMatches}
 
 -- what stays for a whole run: the image, the inputs and the state that it began in, the compartments that perform in
 -- place of running their code, how many steps a turn pays for, where what code refers to lies, how many globals each
@@ -72,6 +71,7 @@ module _ (T : Setting) where
         x.inj k number ≡ Some ((T.addresses k).global number)
     -- a compartment that isn't active has its floor as its saved sp
     pub saved : (k : ℕ) → k ≢ P.comp → T.performs k ≡ false → slice_index x.saved k ≡ P.floor k
+    pub zones : (k : ℕ) → T.performs k ≡ false → ZoneMatches (slice_index_or x.zones k []) (x.meant.memory k)
     pub inputs : x.meant.inputs ≡ drop x.input T.inputs
     pub steady : IsSteadyState T.image (machine P x)
     pub came : Came (machine P x)

@@ -56,21 +56,19 @@ pub use Rattle.sc_image.proofs.Stretches.{goes_adds, goes_one, not_stopped, step
 pub use Rattle.sc_image.specs.Prelude.{Crossing, Goes, IsAt, IsSteadyState, IsWellFormed, IsWord, Outcome, Traps, Walks}
 pub use Rattle.sc_image.specs.Prelude.{are_data, arguments, cleared_for_call, cleared_for_return, on_end, exported_by}
 pub use Rattle.sc_image.specs.Prelude.{gate, given_back, has_result, on_input, input_at, is_argument, is_ended}
-pub use Rattle.sc_image.specs.Prelude.{is_result}
-pub use Rattle.sc_image.specs.Prelude.{jalr_target, kept, kept_from, may_input, may_output, on_output, export_params}
-pub use Rattle.sc_image.specs.Prelude.{reg}
-pub use Rattle.sc_image.specs.Prelude.{on_return, on_return_to, run, stack_size, stack_top, stack_tops, start}
-pub use Rattle.sc_image.specs.Prelude.{start_memory, step, store_size, then_on, walk, with_pc, word_at, written}
+pub use Rattle.sc_image.specs.Prelude.{is_result, jalr_target, kept, kept_from, may_input, may_output, on_output}
+pub use Rattle.sc_image.specs.Prelude.{export_params, reg, on_return, on_return_to, run, stack_size, stack_top}
+pub use Rattle.sc_image.specs.Prelude.{stack_tops, start, start_memory, step, store_size, then_on, walk, with_pc}
+pub use Rattle.sc_image.specs.Prelude.{word_at, written}
 unfoldable pub use Rattle.sc_image.specs.Prelude.{stopped}
 pub use Rattle.sc_tac.proofs.Matching.{code_obeys}
-pub use Rattle.sc_tac.specs.Prelude.{IsFunction, IsProgram, all_true, are_entered, are_headed, calls_exports}
-pub use Rattle.sc_tac.specs.Prelude.{calls_imports, calls_own, code_denotations, code_function, code_functions}
-pub use Rattle.sc_tac.specs.Prelude.{code_globals, code_run, count, cross_call_fits, enters_by_words, everywhere}
-pub use Rattle.sc_tac.specs.Prelude.{exports_entered, first_blocks, function_entered, has_head, in_section, is_entered}
-pub use Rattle.sc_tac.specs.Prelude.{main_entered, names_own_global, numbered, own_call_fits, passes_words, same_entry}
-pub use Rattle.sc_tac.specs.Prelude.{scripted_code_run, takes_result, with_parts}
+pub use Rattle.sc_tac.specs.Prelude.{IsFunction, IsProgram, are_entered, are_headed, calls_exports, calls_imports}
+pub use Rattle.sc_tac.specs.Prelude.{calls_own, code_denotations, code_function, code_functions, code_globals, code_run}
+pub use Rattle.sc_tac.specs.Prelude.{count, cross_call_fits, enters_by_words, everywhere, exports_entered, first_blocks}
+pub use Rattle.sc_tac.specs.Prelude.{function_entered, has_head, in_section, is_entered, main_entered, names_own_global}
+pub use Rattle.sc_tac.specs.Prelude.{numbered, own_call_fits, passes_words, same_entry, scripted_code_run, takes_result}
 pub use Rattle.sc_tac.specs.declared.program.TacSection.{TacSection}
-pub use Rattle.sc_tac.specs.declared.stmt.TacStmt.{TacStmt, TacStmt-F, fold-roll-TacStmt, map-TacStmt, roll-TacStmt}
+pub use Rattle.sc_tac.specs.declared.stmt.TacStmt.{TacStmt, TacStmt-F, map-TacStmt}
 pub use Rattle.sc_emit_select.specs.Prelude.{Addresses, a0, a7, frame_taken, linked_from, moved_by, ra, sp}
 pub use Rattle.sc_emit_hart.proofs.Inside.{IsInside, code_inside}
 pub use Rattle.sc_emit_hart.proofs.Registers.{put_here, put_there, read_listed, write_listed}
@@ -85,7 +83,7 @@ pub use Rattle.sc_emit_relation.specs.Prelude.{AllHonest, AreFloors, ArePassed, 
 pub use Rattle.sc_emit_relation.specs.Prelude.{CallStands, CallsFollow, ComesBack, Costs, Effect, Emits, FunctionGives}
 pub use Rattle.sc_emit_relation.specs.Prelude.{GivesValue, InCell, Injection, IsAddress, IsBase, IsLeft, Joint, Leads}
 pub use Rattle.sc_emit_relation.specs.Prelude.{LiveAt, Overflows, Placed, Protected, ReturnsValue, Setting, Settled}
-pub use Rattle.sc_emit_relation.specs.Prelude.{Standpoint, StandsFor, machine, world_at}
+pub use Rattle.sc_emit_relation.specs.Prelude.{LiesAt, Standpoint, StandsFor, ZoneMatches, machine, world_at}
 pub use Rattle.sc_emit_run_laws.specs.Common.{Blamed, Cross, Ended, Event, EventsOut, Export, ImageParts, Input, Main}
 pub use Rattle.sc_emit_run_laws.specs.Common.{Output, Own, Owner, Proto, TacFnTree, TacTree, TurnsOut, Value, Word}
 pub use Rattle.sc_emit_run_laws.specs.Prelude.{BodiesFollow, Departs, EntersBy, Finishes, GivesResults, HasCode}

@@ -63,6 +63,7 @@ module _ (T : Setting) (formed : IsWellFormed T.image) (inputs : All IsWord T.in
       blocks = settled.blocks;
       globals = settled.globals;
       saved = settled.saved;
+      zones = settled.zones;
       inputs = ap (drop 1) settled.inputs ∙ drop_next T.inputs x.input;
       steady = walks_steady T.image T.inputs formed inputs 1 _ _ walks settled.steady;
       came = came_by T 1 _ _ walks settled.came;
@@ -145,6 +146,7 @@ module _ (T : Setting) (formed : IsWellFormed T.image) (inputs : All IsWord T.in
         blocks = settled.blocks;
         globals = settled.globals;
         saved = settled.saved;
+        zones = settled.zones;
         inputs = settled.inputs;
         steady = walks_steady T.image T.inputs formed inputs 1 _ _ walks' settled.steady;
         came = came_by T 1 _ _ walks' settled.came;

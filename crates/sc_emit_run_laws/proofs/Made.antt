@@ -45,6 +45,7 @@ module _ {T : Setting} {formed : IsWellFormed T.image} {inputs : All IsWord T.in
     blocks = made.settled.blocks;
     globals = made.settled.globals;
     saved = saved_in;
+    zones = made.settled.zones;
     inputs = made.settled.inputs;
     steady = walks_steady T.image T.inputs formed inputs 1 _ _ walks_in made.settled.steady;
     came = came_by T 1 _ _ walks_in made.settled.came;
@@ -140,6 +141,7 @@ module _ {T : Setting} {formed : IsWellFormed T.image} {inputs : All IsWord T.in
         blocks = g.settled.blocks;
         globals = g.settled.globals;
         saved = saved_back;
+        zones = g.settled.zones;
         inputs = g.settled.inputs;
         steady = walks_steady T.image T.inputs formed inputs 1 _ _ walks_back g.settled.steady;
         came = came_by T 1 _ _ walks_back g.settled.came;

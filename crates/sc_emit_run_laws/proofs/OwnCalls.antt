@@ -41,6 +41,7 @@ module _ (T : Setting) (formed : IsWellFormed T.image) (inputs : All IsWord T.in
       blocks = s.blocks;
       globals = s.globals;
       saved = s.saved;
+      zones = s.zones;
       inputs = s.inputs;
       steady = walks_steady T.image T.inputs formed inputs 1 _ _ walks_in s.steady;
       came = came_by T 1 _ _ walks_in s.came;
@@ -115,6 +116,7 @@ module _ (T : Setting) (formed : IsWellFormed T.image) (inputs : All IsWord T.in
             blocks = g.settled.blocks;
             globals = g.settled.globals;
             saved = g.settled.saved;
+            zones = g.settled.zones;
             inputs = g.settled.inputs;
             steady = walks_steady T.image T.inputs formed inputs 1 _ _ walks_back g.settled.steady;
             came = came_by T 1 _ _ walks_back g.settled.came;

@@ -2,25 +2,21 @@
 use Rattle.sc_emit_run_laws.proofs.Common.{Addresses, All, Bool, CallTarget, CodeAt, Cross, HasCode, ImageParts, Input}
 use Rattle.sc_emit_run_laws.proofs.Common.{IsAddress, IsBuilt, IsWord, List, None, Option, Output, Own, Proto, Setting}
 use Rattle.sc_emit_run_laws.proofs.Common.{Some, Store, TacFnTree, TacSection, TacStmt, TacStmt-F, TacTree, []}
-use Rattle.sc_emit_run_laws.proofs.Common.{all_true, and_from, and_parts, ap, arith, calls_exports, calls_imports}
-use Rattle.sc_emit_run_laws.proofs.Common.{calls_own, code_globals, cross_call_fits, everywhere, export_at, false}
-use Rattle.sc_emit_run_laws.proofs.Common.{first_blocks, fold-roll-TacStmt, frame_taken, functions_in}
-use Rattle.sc_emit_run_laws.proofs.Common.{functions_or_none, gives, gives_result, imports, is_function, is_some}
-use Rattle.sc_emit_run_laws.proofs.Common.{is_there, length, length-append, length-map, linked_from, ltb-true, makes}
-use Rattle.sc_emit_run_laws.proofs.Common.{map, map-TacStmt, moved_by, names_own_global, nat_lt, not, option_map}
-use Rattle.sc_emit_run_laws.proofs.Common.{own_call_fits, passes_words, pos, promises_result, ra, refl, roll-TacStmt}
-use Rattle.sc_emit_run_laws.proofs.Common.{setting, slice_get, slice_get-map, slice_get_within, sp, sub_word, subst}
-use Rattle.sc_emit_run_laws.proofs.Common.{sym, takes_result, true, with_parts, word_at, ℕ, ◌&&◌, ◌<◌, ◌==◌, ◌||◌, ◌∙◌}
-use Rattle.sc_emit_run_laws.proofs.Common.{◌∷◌, ◌≡◌, ◌≤◌}
+use Rattle.sc_emit_run_laws.proofs.Common.{and_from, and_parts, ap, arith, calls_exports, calls_imports, calls_own}
+use Rattle.sc_emit_run_laws.proofs.Common.{code_globals, cross_call_fits, everywhere, export_at, false, first_blocks}
+use Rattle.sc_emit_run_laws.proofs.Common.{frame_taken, functions_in, functions_or_none, gives, gives_result, imports}
+use Rattle.sc_emit_run_laws.proofs.Common.{is_function, is_some, is_there, length, length-append, length-map}
+use Rattle.sc_emit_run_laws.proofs.Common.{linked_from, ltb-true, makes, map-TacStmt, moved_by, names_own_global}
+use Rattle.sc_emit_run_laws.proofs.Common.{nat_lt, not, option_map, own_call_fits, passes_words, pos, promises_result}
+use Rattle.sc_emit_run_laws.proofs.Common.{ra, refl, setting, slice_get, slice_get-map, slice_get_within, sp, sub_word}
+use Rattle.sc_emit_run_laws.proofs.Common.{subst, sym, takes_result, true, word_at, ℕ, ◌&&◌, ◌<◌, ◌==◌, ◌||◌, ◌∙◌, ◌∷◌}
+use Rattle.sc_emit_run_laws.proofs.Common.{◌≡◌, ◌≤◌}
 use Rattle.sc_emit.specs.Prelude.{IsCodeAddress, IsPlaced, calls_only, is_call, names_only}
 use Rattle.rv_code.specs.declared.instr.Instr.{Instr}
 use Rattle.rv_code.specs.declared.instr.StoreOp.TheVariants.{Sw}
-use Rattle.sc_core.proofs.Induction.{Each, everywhere as of_each}
 use Rattle.sc_tac.specs.declared.stmt.TacStmt.TheOpen as tac
-use Rattle.sc_tac.proofs.Induction.{Inside, stmt_induction}
 use Rattle.sc_tac.specs.declared.machine_code.Relocation.{Relocation}
-use Rattle.sc_emit.proofs.Passing.{AllPass, PassesAll, PassesHere, Test, choice_passes, first_passes, loop_passes}
-use Rattle.sc_emit.proofs.Passing.{passes, passes_here, rest_pass}
+use Rattle.sc_emit.proofs.Passing.{AllPass, PassesHere, Test, implied_everywhere, passes}
 use Rattle.sc_emit_run_laws.proofs.Sections.{InSection, in_functions, its_section}
 use Rattle.sc_core.specs.Prelude.{live_cells}
 
@@ -44,71 +40,6 @@ word_there image A turn_pays comp number f code =
       length-append (frame_taken code.frame.bytes) prefix.more,
       length-append (moved_by sp sp (sub_word 0 code.frame.bytes)) (Store Sw sp ra (pos 0) ∷ []),
     )) code.stands
-
--- A test that others imply, of each statement by itself, holds everywhere where they do.
-module _ (tests : List Test) (test : Test)
-    (implies : (layer : TacStmt-F TacStmt) → PassesHere tests layer → test (map-TacStmt _ _ (passes test) layer) ≡ true)
-  where
-    abbrev Implied : TacStmt → Type 0
-    Implied stmt = PassesAll tests stmt → passes test stmt ≡ true
-
-    row_implied : (stmts : List TacStmt) → Each Implied stmts → AllPass tests stmts →
-        all_true (map (passes test) stmts) ≡ true
-    row_implied [] h all = refl
-    row_implied (stmt ∷ stmts) h all =
-        and_from (passes test stmt) (all_true (map (passes test) stmts)) (h.0 (first_passes tests stmt stmts all))
-        (row_implied stmts h.1 (rest_pass tests stmt stmts all))
-
-    abbrev itself : TacStmt-F TacStmt → Bool
-    itself layer = test (map-TacStmt _ _ (passes test) layer)
-
-    lone : (layer : TacStmt-F TacStmt) → PassesAll tests (roll-TacStmt layer) → (itself layer && true) ≡ true
-    lone layer all = and_from (itself layer) true (implies layer (passes_here tests layer all)) refl
-
-    layer_implied : (layer : TacStmt-F TacStmt) → Inside Implied layer → PassesAll tests (roll-TacStmt layer) →
-        with_parts test (map-TacStmt _ _ (passes test) layer) ≡ true
-    layer_implied (tac.Const dest value) h all = lone (tac.Const dest value) all
-    layer_implied (tac.Copy dest from) h all = lone (tac.Copy dest from) all
-    layer_implied (tac.Op dest op left right) h all = lone (tac.Op dest op left right) all
-    layer_implied (tac.ObjectPlace dest object) h all = lone (tac.ObjectPlace dest object) all
-    layer_implied (tac.GlobalPlace dest global) h all = lone (tac.GlobalPlace dest global) all
-    layer_implied (tac.Load dest place pointer) h all = lone (tac.Load dest place pointer) all
-    layer_implied (tac.Store place value) h all = lone (tac.Store place value) all
-    layer_implied (tac.If cond first second) h all =
-        let inner = choice_passes tests cond first second all in
-        and_from (itself (tac.If cond first second))
-        (all_true (map (passes test) first) && (all_true (map (passes test) second) && true))
-        (implies (tac.If cond first second) (passes_here tests (tac.If cond first second) all))
-        (and_from (all_true (map (passes test) first)) (all_true (map (passes test) second) && true)
-        (row_implied first h.0 inner.0)
-        (and_from (all_true (map (passes test) second)) true (row_implied second h.1 inner.1) refl))
-    layer_implied (tac.Loop head body next) h all =
-        let inner = loop_passes tests head body next all in
-        and_from (itself (tac.Loop head body next))
-        (all_true (map (passes test) head) &&
-        (all_true (map (passes test) body) && (all_true (map (passes test) next) && true)))
-        (implies (tac.Loop head body next) (passes_here tests (tac.Loop head body next) all))
-        (and_from (all_true (map (passes test) head))
-        (all_true (map (passes test) body) && (all_true (map (passes test) next) && true))
-        (row_implied head h.0 inner.0)
-        (and_from (all_true (map (passes test) body)) (all_true (map (passes test) next) && true)
-        (row_implied body h.1 inner.1)
-        (and_from (all_true (map (passes test) next)) true (row_implied next h.2 inner.2) refl)))
-    layer_implied tac.Break h all = lone tac.Break all
-    layer_implied tac.Continue h all = lone tac.Continue all
-    layer_implied (tac.CallOwn dest function args) h all = lone (tac.CallOwn dest function args) all
-    layer_implied (tac.CallCross dest comp index args) h all = lone (tac.CallCross dest comp index args) all
-    layer_implied (tac.Input dest) h all = lone (tac.Input dest) all
-    layer_implied (tac.Output value) h all = lone (tac.Output value) all
-    layer_implied (tac.Return value) h all = lone (tac.Return value) all
-
-    implied : (stmt : TacStmt) → Implied stmt
-    implied =
-        stmt_induction Implied (λ layer h all.
-        fold-roll-TacStmt Bool (with_parts test) layer ∙ layer_implied layer h all)
-
-    pub implied_everywhere : (stmts : List TacStmt) → AllPass tests stmts → everywhere test stmts ≡ true
-    implied_everywhere stmts all = row_implied stmts (of_each Implied implied stmts) all
 
 -- What the rules of a program say of a call, is what the code counts on.
 
@@ -175,6 +106,8 @@ module _ (program : TacTree) (comp : ℕ) (section : TacSection) where
       (cross_made (export_at program.interfaces to index) dest (length args) h.1.1.0).2
   names_here (tac.Input dest) h = refl
   names_here (tac.Output value) h = refl
+  names_here (tac.Alloc dest count words) h = refl
+  names_here (tac.Free pointer) h = refl
   names_here (tac.Return value) h = refl
 
   pub names_all : (stmts : List TacStmt) → AllPass rules_of stmts →
@@ -233,6 +166,8 @@ module _ (program : TacTree) (comp : ℕ) (section : TacSection) where
         (given_by (performs comp) true dest honest (or_true (not (is_some dest))))
     calls_here (tac.Output value) h =
         and_from (makes program comp Output 1) true (and_from _ true h.1.1.1.0 refl) refl
+    calls_here (tac.Alloc dest count words) h = refl
+    calls_here (tac.Free pointer) h = refl
     calls_here (tac.Return value) h = refl
 
     pub calls_all : (stmts : List TacStmt) → AllPass rules_of stmts → everywhere its_calls stmts ≡ true
@@ -303,6 +238,7 @@ module _ {program : TacTree} {image : ImageParts} {turn_pays : ℕ} (built : IsB
           places = λ other h.
               global_place comp other at.section at.here (ltb-true other (length at.section.globals) h);
         };
+        heap = code.heap;
         words = passed;
         paid = omega (arith, code.paid);
         stands = code.stands;

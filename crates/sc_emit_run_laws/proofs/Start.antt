@@ -1,19 +1,24 @@
 -- Where both sides stand at the start of a run: the machine, and the meaning of the program whose code it has.
 use Rattle.sc_emit_run_laws.proofs.Common.{Begins, BlocksMatch, Bool, Cell, ImageParts, InCell, Injection, IsBase}
-use Rattle.sc_emit_run_laws.proofs.Common.{IsBuilt, IsProgram, Joint, List, Main, Memory, None, Option, Placed}
+use Rattle.sc_emit_run_laws.proofs.Common.{IsBuilt, IsProgram, Joint, LiesAt, List, Main, Memory, None, Option, Placed}
 use Rattle.sc_emit_run_laws.proofs.Common.{Registers, Setting, Settled, Some, Standpoint, TacFnTree, TacSection}
-use Rattle.sc_emit_run_laws.proofs.Common.{TacTree, [], and_parts, ap, are_headed, arith, code_function, code_globals}
-use Rattle.sc_emit_run_laws.proofs.Common.{cond, count, eqb-true, false, first_state, function_entered, functions_in}
-use Rattle.sc_emit_run_laws.proofs.Common.{functions_or_none, gate, has_head, if◌then◌else◌, length, lt-ltb, ltb-true}
-use Rattle.sc_emit_run_laws.proofs.Common.{main_entered, map, nat_lt, not, option_map, or_parts, position}
-use Rattle.sc_emit_run_laws.proofs.Common.{position-cons, refl, runs_are_steady, same_Some, same_entry, setting}
-use Rattle.sc_emit_run_laws.proofs.Common.{slice_get, slice_index, stack_top, stack_tops, start_memory, subst, suc, sym}
-use Rattle.sc_emit_run_laws.proofs.Common.{true, truth, word, wrapping, zero, zero-add, ℕ, ◌*◌, ◌+◌, ◌<◌, ◌==◌, ◌||◌}
-use Rattle.sc_emit_run_laws.proofs.Common.{◌∙◌, ◌∷◌, ◌≡◌, ◌≤◌, ◌⊎◌}
+use Rattle.sc_emit_run_laws.proofs.Common.{TacTree, ℕ, [], and_parts, ap, are_headed, arith, code_function}
+use Rattle.sc_emit_run_laws.proofs.Common.{code_globals, cond, count, eqb-true, false, first_blocks, first_state}
+use Rattle.sc_emit_run_laws.proofs.Common.{function_entered, functions_in, functions_or_none, gate, has_head}
+use Rattle.sc_emit_run_laws.proofs.Common.{if◌then◌else◌, length, lt-ltb, ltb-true, main_entered, map, nat_lt, not}
+use Rattle.sc_emit_run_laws.proofs.Common.{option_map, or_parts, position, position-cons, refl, runs_are_steady}
+use Rattle.sc_emit_run_laws.proofs.Common.{same_Some, same_entry, setting, slice_get, slice_index, slice_index_or}
+use Rattle.sc_emit_run_laws.proofs.Common.{stack_top, stack_tops, start_memory, subst, suc, sym, true, truth, word}
+use Rattle.sc_emit_run_laws.proofs.Common.{wrapping, zero, zero-add, ◌*◌, ◌+◌, ◌<◌, ◌==◌, ◌||◌, ◌∙◌, ◌∷◌, ◌≡◌, ◌≤◌, ◌⊎◌}
+use Rattle.std.proofs.Common.{subst₂}
 use Rattle.sc_core.specs.declared.value.Cell.TheVariants as cell
+use Rattle.sc_core.specs.Prelude.{Block, global_block, spans_of, struct_zeros}
+use Rattle.sc_core.specs.declared.section.TypedGlobal.{TypedGlobal}
 use Rattle.sc_image.specs.declared.parts.CompPart.{CompPart}
+use Rattle.sc_zone.specs.Prelude.{AreLaid}
+use Rattle.sc_zone.specs.declared.span.Span.{Span}
 use Rattle.sc_emit_run_laws.proofs.Sections.{all_at, position_at}
-use Rattle.sc_emit_relation.proofs.Access.{live_within}
+use Rattle.sc_emit_relation.proofs.Access.{alive, live_within}
 
 -- THE FUNCTION OF `main`
 
@@ -101,6 +106,35 @@ in_cell place w (cell.Word n) h = record { word = h.word; means = h.means }
 in_cell place w cell.Null h = record { word = h.word; means = h.means }
 in_cell place w (cell.Ptr p) h = (let nowhere : ◌≡◌ {A = Option ℕ} None (Some h.means.0) = h.means.1 in cc nowhere)
 
+-- no global is allocated, and all of each zone is free
+none_allocated : (zeros : List (List Cell)) (globals : List TypedGlobal) →
+    spans_of (map (global_block zeros) globals) ≡ []
+none_allocated zeros [] = refl
+none_allocated zeros (g ∷ globals) = none_allocated zeros globals
+
+variable_at : (zeros : List (List Cell)) (globals : List TypedGlobal) (b : ℕ) (block : Block) →
+    slice_get (map (global_block zeros) globals) b ≡ Some block → block.place ≡ None
+variable_at zeros [] b block h = cc h
+variable_at zeros (g ∷ globals) zero block h = sym (ap (λ x. x.place) (same_Some (global_block zeros g) block h))
+variable_at zeros (g ∷ globals) (suc b) block h = variable_at zeros globals b block h
+
+no_place : (section : Option TacSection) (b : ℕ) (block : Block) → slice_get (first_blocks section) b ≡ Some block →
+    block.place ≡ None
+no_place None b block h = cc h
+no_place (Some section) b block h = variable_at (struct_zeros [] section.structs) section.globals b block h
+
+no_spans : (section : Option TacSection) → spans_of (first_blocks section) ≡ []
+no_spans None = refl
+no_spans (Some section) = none_allocated (struct_zeros [] section.structs) section.globals
+
+abbrev nothing : List Span
+nothing = []
+
+none_taken : (comps : List CompPart) (k : ℕ) → slice_index_or (map (λ comp. nothing) comps) k nothing ≡ nothing
+none_taken [] k = refl
+none_taken (comp ∷ comps) zero = refl
+none_taken (comp ∷ comps) (suc k) = none_taken comps k
+
 -- ra is the gate, and sp the top of a stack
 abbrev pub first_regs : (top : ℕ) → Registers
 first_regs top r = if r == 1 then gate else (if r == 2 then top else 0)
@@ -169,6 +203,9 @@ module _ {program : TacTree} {image : ImageParts} {turn_pays : ℕ} (built : IsB
         (subst (λ d. ((built.addresses k).global b + 4 * length xs ≤ d) ⊎
         (d + 4 * length ys ≤ (built.addresses k).global b))
         (sym (at_place k c d f)) (built.linked.globals_apart k b c xs ys differ live more));
+    lies = λ k b a block honest at live e. subst₂ (λ a place. LiesAt k a (length block.cells) place)
+        (sym (at_place k b a e)) (sym (no_place (slice_get program.sections k) b block at))
+        (built.linked.globals k b block.cells (alive (globals k) b block at live)).below;
     known = λ k b a e. (placed_only (length (globals k)) (built.addresses k).global b a e).0;
   }
 
@@ -177,6 +214,10 @@ module _ {program : TacTree} {image : ImageParts} {turn_pays : ℕ} (built : IsB
     blocks = blocks;
     globals = λ k number honest below. placed_below (length (globals k)) (built.addresses k).global number below;
     saved = λ k other honest. tops_at 0 image.comps k (within k honest) ∙ ap stack_top (zero-add k);
+    zones = λ k honest. record {
+      same = none_taken image.comps k ∙ sym (no_spans (slice_get program.sections k));
+      laid = subst (AreLaid 0) (sym (no_spans (slice_get program.sections k))) (omega arith);
+    };
     inputs = refl;
     steady = runs_are_steady.first image built.linked.formed;
     came = record { steps = 0; walks = record { by = refl } };

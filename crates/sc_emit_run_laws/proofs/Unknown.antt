@@ -158,7 +158,8 @@ module _ {program : TacTree} {image : ImageParts} {turn_pays : ℕ} (built : IsB
           settled_rezoned T built.linked.formed words P x 1 pc (λ r. slice_index regs r) after zones settled
           (λ k b a i cells honest live at below.
           keeps.word_is k (a + 4 * i) (other_than k honest)
-          (block_owned settled.blocks k b a i cells honest live at below)) walks_moved
+          (block_owned settled.blocks k b a i cells honest live at below))
+          (λ k honest. keeps.zone_is k (other_than k honest)) walks_moved
 
       leads_silent : Leads T P x moved 0 0
       leads_silent =
@@ -219,6 +220,7 @@ module _ {program : TacTree} {image : ImageParts} {turn_pays : ℕ} (built : IsB
         blocks = settled.blocks;
         globals = settled.globals;
         saved = settled.saved;
+        zones = settled.zones;
         inputs = settled.inputs;
         steady = walks_steady image inputs built.linked.formed words 1 _ _ walks_emitting settled.steady;
         came = came_by T 1 _ _ walks_emitting settled.came;
@@ -282,6 +284,7 @@ module _ {program : TacTree} {image : ImageParts} {turn_pays : ℕ} (built : IsB
         blocks = settled.blocks;
         globals = settled.globals;
         saved = settled.saved;
+        zones = settled.zones;
         inputs = ap (drop 1) settled.inputs ∙ drop_next inputs x.input;
         steady = walks_steady image inputs built.linked.formed words 1 _ _ walks_reading settled.steady;
         came = came_by T 1 _ _ walks_reading settled.came;

@@ -1,10 +1,11 @@
 -- The variables and the frame of a function that performs, only in the meaning: the machine knows nothing of them.
 use Rattle.sc_emit_run_laws.proofs.Common.{AllBefore, Cell, Effect, FrameChange, Function, Joint, List, LiveAt, Memory}
-use Rattle.sc_emit_run_laws.proofs.Common.{Protected, Setting, Settled, Standpoint, Value, ap, arith, begun, cases_eq}
-use Rattle.sc_emit_run_laws.proofs.Common.{depth_after, done, false, inl, inr, length, ne_eqb, refl, stack_depth, suc}
-use Rattle.sc_emit_run_laws.proofs.Common.{sym, true, ℕ, ⊎_elim, ◌∙◌, ◌≡◌, ◌≢◌, ◌≤◌}
-use Rattle.sc_emit_relation.proofs.Ending.{length_closed, memory_closed, depth_begun, depth_begun_else, depth_done}
-use Rattle.sc_emit_relation.proofs.Ending.{depth_done_else, timed_closed, timed_opened}
+use Rattle.sc_emit_run_laws.proofs.Common.{Protected, Setting, Settled, Standpoint, Value, ZoneMatches, ℕ, [], ap}
+use Rattle.sc_emit_run_laws.proofs.Common.{arith, begun, cases_eq, depth_after, done, false, inl, inr, length, ne_eqb}
+use Rattle.sc_emit_run_laws.proofs.Common.{refl, slice_get, slice_index_or, stack_depth, subst, suc, sym, true, ⊎_elim}
+use Rattle.sc_emit_run_laws.proofs.Common.{◌∙◌, ◌≡◌, ◌≢◌, ◌≤◌}
+use Rattle.sc_emit_relation.proofs.Ending.{depth_begun, depth_begun_else, depth_done, depth_done_else, length_closed}
+use Rattle.sc_emit_relation.proofs.Ending.{memory_closed, timed_closed, timed_opened}
 use Rattle.sc_emit_relation.proofs.Opening.{length_opened, memory_opened}
 use Rattle.sc_core.specs.Prelude.{cells_at}
 
@@ -41,10 +42,14 @@ module _ (T : Setting) (Q : Standpoint) (comp : ℕ) (performs : T.performs comp
               s.blocks.holds k b a i cells c honest (live k b cells honest h) at get;
           apart = λ k b c a d xs ys honest h g at to differ.
               s.blocks.apart k b c a d xs ys honest (live k b xs honest h) (live k c ys honest g) at to differ;
+          lies = λ k b a block honest h alive at. s.blocks.lies k b a block honest
+              (ap (λ blocks. slice_get blocks b) (sym (else.same k (other_than k honest))) ∙ h) alive at;
           known = λ k b a at. omega (arith, s.blocks.known k b a at, else.longer k);
         };
         globals = s.globals;
         saved = s.saved;
+        zones = λ k honest. subst (ZoneMatches (slice_index_or y.zones k [])) (sym (else.same k (other_than k honest)))
+            (s.zones k honest);
         inputs = s.inputs;
         steady = s.steady;
         came = s.came;

@@ -5,7 +5,7 @@ use Rattle.sc_emit_run_laws.specs.Common.{code_globals, cross_call_fits, export_
 use Rattle.sc_emit_run_laws.specs.Common.{imports, is_function, is_input, is_output, linked, may_call_export, may_input}
 use Rattle.sc_emit_run_laws.specs.Common.{may_output, own_call_fits, export_params, stack_top, start, start_memory}
 use Rattle.sc_word.specs.Prelude.{add_word, word_of}
-use Rattle.sc_image.specs.Prelude.{entered_export as image_export, zone_start}
+use Rattle.sc_image.specs.Prelude.{entered_export as image_export, has_heap, zone_start}
 use Rattle.sc_emit_hart.specs.Prelude.{CodeAt, Fetches, word}
 use Rattle.sc_emit.specs.Prelude.{IsCodeAddress, IsEmitted}
 use Rattle.std.specs.Prelude.{◌≡◌, ◌≢◌, ℕ, ℤ, ◌+◌, ◌*◌, ◌<◌, ◌≤◌, ◌⊎◌, Bool, true, false, not, ◌&&◌, ◌||◌, ◌==◌, nat_lt}
@@ -64,13 +64,15 @@ module _ (program : TacTree) where
     gives = λ comp target. not (performs comp) && gives comp target;
   }
 
--- the code of a function stands where it begins, and a turn pays for it and one step more
+-- the code of a function stands where it begins, in a compartment that has a heap where it uses one, and a turn pays
+-- for it and one step more
 pub record HasCode (image : ImageParts) (addresses : Addresses) (turn_pays comp number : ℕ) (f : TacFnTree) :
     Type 0 where
   pub frame : FrameTree
   pub code : CodeTree
   pub emitted : IsEmitted f frame code
   pub stands : CodeAt image comp (addresses.function number) (linked addresses (addresses.function number) code)
+  pub heap : code.heap ≡ true → has_heap image comp ≡ true
   pub paid : length code.instrs < turn_pays
 
 -- at an entry stands a jump to the function of that number

@@ -1,10 +1,10 @@
 -- The names that several proofs of this crate cite, passed on from one place. Declares nothing.
 pub use Rattle.std.proofs.Common.{All, AllPairs, Bool, IsTrue, List, None, OnOk, Option, Some, [], add-one, ap}
 pub use Rattle.std.proofs.Common.{append-nil, append_assoc, ap₂, arith, drop, drop-cons, eq-eqb, eqb-true, false}
-pub use Rattle.std.proofs.Common.{get_or, if◌then◌else◌, inl, inr, is_some, le-ltb, length, length-append, ltb-true}
-pub use Rattle.std.proofs.Common.{map, nat_lt, ne_eqb, neg_ℤ, negsuc, not, pos, pred, refl, replicate, reverse}
-pub use Rattle.std.proofs.Common.{slice_get, slice_set, subst, suc, sym, true, zero, ℕ, ⊎_elim, ◌&&◌, ◌*◌, ◌++◌, ◌+◌}
-pub use Rattle.std.proofs.Common.{◌-◌, ◌<◌, ◌==◌, ◌^◌, ◌||◌, ◌∙◌, ◌∷◌, ◌≡◌, ◌≤◌, ◌⊎◌}
+pub use Rattle.std.proofs.Common.{get_or, if◌then◌else◌, inl, inr, is_some, le-ltb, length, length-append, lt-ltb}
+pub use Rattle.std.proofs.Common.{ltb-true, map, nat_lt, ne_eqb, neg_ℤ, negsuc, not, pos, pred, refl, replicate}
+pub use Rattle.std.proofs.Common.{reverse, slice_get, slice_set, subst, suc, sym, true, zero, ℕ, ⊎_elim, ◌&&◌, ◌*◌}
+pub use Rattle.std.proofs.Common.{◌++◌, ◌+◌, ◌-◌, ◌<◌, ◌==◌, ◌^◌, ◌||◌, ◌∙◌, ◌∷◌, ◌≡◌, ◌≤◌, ◌⊎◌}
 pub use Rattle.std.proofs.lemmas.Bool.{and_from}
 pub use Rattle.std.proofs.lemmas.List.{length-map, length-reverse, reverse-append, reverse-reverse}
 pub use Rattle.std.proofs.lemmas.Result.{IfOk-weaker, on_ok_weaker}
@@ -15,15 +15,16 @@ pub use Rattle.sc_core.proofs.Induction.{Each}
 pub use Rattle.rv_code.specs.declared.instr.BranchOp.TheVariants.{Bne}
 pub use Rattle.sc_tac.proofs.Induction.{Inside, stmt_induction}
 pub use Rattle.sc_tac.specs.Prelude.{IsCode, IsFunction, all_true, entry_weight, everywhere, frame_of, has_operands}
-pub use Rattle.sc_tac.specs.Prelude.{is_address, is_jal, is_linkable, is_one, is_unsigned, names_own_temps, one_or_none}
-pub use Rattle.sc_tac.specs.Prelude.{op_weight, parts, passes_few, stmt_weight, takes_two, weight, weight_step}
-pub use Rattle.sc_tac.specs.Prelude.{with_parts}
+pub use Rattle.sc_tac.specs.Prelude.{is_address, is_jal, is_linkable, is_one, is_unsigned, leaves_heap, names_own_temps}
+pub use Rattle.sc_tac.specs.Prelude.{one_or_none, op_weight, parts, passes_few, stmt_weight, takes_two, uses_heap}
+pub use Rattle.sc_tac.specs.Prelude.{weight, weight_step, with_parts}
 pub use Rattle.sc_tac.specs.declared.function.TacFnTree.{TacFnTree}
 pub use Rattle.sc_tac.specs.declared.place.Place.TheVariants.{Register, Slot}
 pub use Rattle.sc_tac.specs.declared.stmt.TacStmt.{fold-roll-TacStmt, map-TacStmt}
 unfoldable pub use Rattle.sc_tac.specs.declared.stmt.TacStmt.{roll-TacStmt}
-pub use Rattle.sc_emit_select.specs.Common.{Branch, CodeTree, Div, Entry, Function, Global, Instr, Jalr, Lui, Lw, Mul}
-pub use Rattle.sc_emit_select.specs.Common.{Relocation, Shift, Sub, Sw, TacOp, TacStmt, TacStmt-F, Target, fold-TacStmt}
+pub use Rattle.sc_emit_select.specs.Common.{Branch, CodeTree, Div, Ecall, Entry, Function, Global, Instr, Jalr, Lui, Lw}
+pub use Rattle.sc_emit_select.specs.Common.{Mul, Relocation, Shift, Sub, Sw, TacOp, TacStmt, TacStmt-F, Target}
+pub use Rattle.sc_emit_select.specs.Common.{fold-TacStmt}
 pub use Rattle.sc_emit_select.specs.Prelude.{Add, Addi, Breaks, Fits, FitsBetween, FitsLoop, FrameTree, Jal, Kind, Line}
 pub use Rattle.sc_emit_select.specs.Prelude.{Load, Marked, Need, Op, OpImm, Piece, Place, Plain, Plan, Store, Strays}
 pub use Rattle.sc_emit_select.specs.Prelude.{Tests, Upper, all_plain, as_one, at_hand, before_test, between}

@@ -1,22 +1,22 @@
 -- Lines that refer to targets stand where the linker can complete them.
-use Rattle.sc_emit_select.proofs.Common.{All, AllPairs, Bne, Bool, Branch, Each, Entry, FrameTree, Function, Global}
-use Rattle.sc_emit_select.proofs.Common.{Inside, Instr, IsCode, IsTrue, Jal, Jalr, Kind, Line, List, Lui, None, Option}
-use Rattle.sc_emit_select.proofs.Common.{Piece, Place, Places, Plan, Relocation, Role, Sets, Some, Store, Sw, TacFnTree}
-use Rattle.sc_emit_select.proofs.Common.{TacStmt, TacStmt-F, Target, Upper, [], and_first, and_from, and_rest, ap}
-use Rattle.sc_emit_select.proofs.Common.{append-nil, arith, branch_back, branch_reach, brought, call_cross, call_own}
-use Rattle.sc_emit_select.proofs.Common.{choice, closing, code_of, code_of_lines, copied, cycle, environment_call}
-use Rattle.sc_emit_select.proofs.Common.{eq-eqb, false, first_scratch, fold-roll-TacStmt, followed, frame_taken}
-use Rattle.sc_emit_select.proofs.Common.{function_lines, has_mark, if◌then◌else◌, in_order, is_address, is_jal}
-use Rattle.sc_emit_select.proofs.Common.{is_linkable, is_near, jump_back, keep, le-ltb, length, length-append}
-use Rattle.sc_emit_select.proofs.Common.{length-map, load_from, loading, map, map-TacStmt, moved_by, nat_lt, needed_in}
-use Rattle.sc_emit_select.proofs.Common.{neg_ℤ, object_offset, object_read, object_store, operand, operation, pass}
-use Rattle.sc_emit_select.proofs.Common.{place_of_global, plain, plainly, plan_by, plan_of, pos, prologue, receive}
-use Rattle.sc_emit_select.proofs.Common.{referring, refl, relocation_of, relocations_from, result_register, return}
-use Rattle.sc_emit_select.proofs.Common.{role_of_load, role_of_operation, role_of_return, role_of_store, rotated}
-use Rattle.sc_emit_select.proofs.Common.{select, select_all, select_step, short_form, short_operation, short_return}
-use Rattle.sc_emit_select.proofs.Common.{slice_get, stmt_induction, store_arguments, store_to, straightly, sub_word}
-use Rattle.sc_emit_select.proofs.Common.{subst, suc, sym, take, testing, true, word_of_constant, ℕ, ◌&&◌, ◌*◌, ◌++◌}
-use Rattle.sc_emit_select.proofs.Common.{◌+◌, ◌<◌, ◌∙◌, ◌∷◌, ◌≡◌, ◌≤◌}
+use Rattle.sc_emit_select.proofs.Common.{All, AllPairs, Bne, Bool, Branch, CodeTree, Each, Entry, FrameTree, Function}
+use Rattle.sc_emit_select.proofs.Common.{Global, Inside, Instr, IsCode, IsTrue, Jal, Jalr, Kind, Line, List, Lui, None}
+use Rattle.sc_emit_select.proofs.Common.{Option, Piece, Place, Places, Plan, Relocation, Role, Sets, Some, Store, Sw}
+use Rattle.sc_emit_select.proofs.Common.{TacFnTree, TacStmt, TacStmt-F, Target, Upper, [], and_first, and_from}
+use Rattle.sc_emit_select.proofs.Common.{and_rest, ap, append-nil, arith, branch_back, branch_reach, brought}
+use Rattle.sc_emit_select.proofs.Common.{call_cross, call_own, choice, closing, code_of, code_of_lines, copied, cycle}
+use Rattle.sc_emit_select.proofs.Common.{environment_call, eq-eqb, false, first_scratch, fold-roll-TacStmt, followed}
+use Rattle.sc_emit_select.proofs.Common.{frame_taken, function_lines, has_mark, if◌then◌else◌, in_order, is_address}
+use Rattle.sc_emit_select.proofs.Common.{is_jal, is_linkable, is_near, jump_back, keep, le-ltb, length, length-append}
+use Rattle.sc_emit_select.proofs.Common.{length-map, load_from, loading, lt-ltb, map, map-TacStmt, moved_by, nat_lt}
+use Rattle.sc_emit_select.proofs.Common.{needed_in, neg_ℤ, object_offset, object_read, object_store, operand, operation}
+use Rattle.sc_emit_select.proofs.Common.{pass, place_of_global, plain, plainly, plan_by, plan_of, pos, prologue, put}
+use Rattle.sc_emit_select.proofs.Common.{receive, referring, refl, relocation_of, relocations_from, result_register}
+use Rattle.sc_emit_select.proofs.Common.{return, role_of_load, role_of_operation, role_of_return, role_of_store}
+use Rattle.sc_emit_select.proofs.Common.{rotated, select, select_all, select_step, short_form, short_operation}
+use Rattle.sc_emit_select.proofs.Common.{short_return, slice_get, stmt_induction, store_arguments, store_to, straightly}
+use Rattle.sc_emit_select.proofs.Common.{sub_word, subst, suc, sym, take, testing, true, uses_heap, word_of_constant, ℕ}
+use Rattle.sc_emit_select.proofs.Common.{◌&&◌, ◌*◌, ◌++◌, ◌+◌, ◌<◌, ◌∙◌, ◌∷◌, ◌≡◌, ◌≤◌}
 use Rattle.sc_core.proofs.Induction.{everywhere as each_holds}
 use Rattle.std.proofs.lemmas.List.Elements.{All-cons, All-nil, All-weaker}
 use Rattle.std.proofs.lemmas.List.Kept.{AllPairs-cons}
@@ -190,6 +190,11 @@ module _ (frame : FrameTree) (places : List Place) (plan : Plan) where
       straightly_complete (environment_call 1 ++ receive frame places dest)
   layer_complete (tac.Output value) h =
       straightly_complete (brought frame 10 (slice_get places value) ++ environment_call 2)
+  layer_complete (tac.Alloc dest count words) h =
+      straightly_complete (brought frame 10 (slice_get places count) ++ loading 11 words ++ environment_call 3 ++
+      put frame 10 (slice_get places dest))
+  layer_complete (tac.Free pointer) h =
+      straightly_complete (brought frame 10 (slice_get places pointer) ++ environment_call 4)
   layer_complete (tac.Return value) h = with_role (return frame places value) (role_of_return value)
 
   stmt_complete : (stmt : TacStmt) → IsComplete (select frame places plan stmt)
@@ -310,9 +315,9 @@ some_lines frame places plan f =
       length-append taken (Store Sw 2 1 (pos 0) ∷ []),
     )
 
-pub function_code : (frame : FrameTree) (places : List Place) (plan : Plan) (f : TacFnTree) →
-    IsCode (code_of_lines (function_lines frame places plan f))
-function_code frame places plan f =
+pub function_code : (frame : FrameTree) (places : List Place) (plan : Plan) (f : TacFnTree) (heap : Bool) →
+    IsCode (code_of_lines heap (function_lines frame places plan f))
+function_code frame places plan f heap =
     let lines : List Line = function_lines frame places plan f in
     record {
       some = some_lines frame places plan f;
@@ -321,6 +326,11 @@ function_code frame places plan f =
           (λ i. let e : 0 + i ≡ i = omega arith in ap (λ n. slice_get (instrs_of lines) n) e)
           (function_complete frame places plan f);
     }
+
+-- what is made of lines, by whether they use the heap
+pub read_code : (code : CodeTree) (lines : List Line) (heap same : Bool) → code ≡ code_of_lines heap lines →
+    heap ≡ same → code ≡ code_of_lines same lines
+read_code code lines heap same is h = is ∙ ap (λ b. code_of_lines b lines) h
 
 -- all that was written before nothing is a function's code
 pub whole_function : (frame : FrameTree) (places : List Place) (near : Bool) (f tree : TacFnTree) (marks : List Bool)
@@ -333,11 +343,20 @@ whole_function frame places near f tree marks lines old marked same h none =
     ap (λ t. function_lines frame places (plan_by marks near) t) same ∙
     (λ i. function_lines frame places (record { needed = λ t. marked t i; near = near }) f)
 
+pub near_code : (f : TacFnTree) (places : List Place) (frame : FrameTree) (lines : List Line) →
+    lines ≡ function_lines frame places (plan_of f true) f → length lines < 1024 →
+    code_of_lines (uses_heap f.body) lines ≡ code_of f places frame
+near_code f places frame lines is short =
+    let near : is_near f places frame ≡ true =
+    ap (λ l. nat_lt (length l) 1024) (sym is) ∙ lt-ltb (length lines) 1024 short in
+    ap (code_of_lines (uses_heap f.body)) is ∙
+    ap (λ b. code_of_lines (uses_heap f.body) (function_lines frame places (plan_of f b) f)) (sym near)
+
 pub far_code : (f : TacFnTree) (places : List Place) (frame : FrameTree) (near far : List Line) →
     near ≡ function_lines frame places (plan_of f true) f → far ≡ function_lines frame places (plan_of f false) f →
-    1024 ≤ length near → code_of_lines far ≡ code_of f places frame
+    1024 ≤ length near → code_of_lines (uses_heap f.body) far ≡ code_of f places frame
 far_code f places frame near far is other long =
     let not_near : is_near f places frame ≡ false =
     ap (λ l. nat_lt (length l) 1024) (sym is) ∙ le-ltb (length near) 1024 long in
-    ap code_of_lines other ∙
-    ap (λ b. code_of_lines (function_lines frame places (plan_of f b) f)) (sym not_near)
+    ap (code_of_lines (uses_heap f.body)) other ∙
+    ap (λ b. code_of_lines (uses_heap f.body) (function_lines frame places (plan_of f b) f)) (sym not_near)

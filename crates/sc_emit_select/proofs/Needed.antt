@@ -145,6 +145,9 @@ module _ (temps t : ℕ) (beyond : temps ≤ t) where
   layer_absent (tac.CallCross dest comp index args) each h k = record { reads = not_read dest args h; stores = refl }
   layer_absent (tac.Input dest) each h k = record { reads = refl; stores = refl }
   layer_absent (tac.Output value) each h k = record { reads = not_read None (value ∷ []) h; stores = refl }
+  layer_absent (tac.Alloc dest count words) each h k =
+      record { reads = not_read (Some dest) (count ∷ []) h; stores = refl }
+  layer_absent (tac.Free pointer) each h k = record { reads = not_read None (pointer ∷ []) h; stores = refl }
   layer_absent (tac.Return value) each h k = record { reads = not_read None (one_or_none value) h; stores = refl }
 
   stmt_absent : (stmt : TacStmt) → IsAbsent stmt

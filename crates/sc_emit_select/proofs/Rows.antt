@@ -1,10 +1,11 @@
 -- Worked functions: the code of each.
-use Rattle.sc_emit_select.proofs.Common.{Addi, Bne, Bool, Branch, CodeTree, FrameTree, Function, Jal, Jalr, Line, List}
-use Rattle.sc_emit_select.proofs.Common.{Load, Lw, Need, None, Op, OpImm, Piece, Place, Plan as Way, Register, Slot}
-use Rattle.sc_emit_select.proofs.Common.{Some, Store, Sub, Sw, [], ap, branch_reach, closing, code_of, code_of_lines}
-use Rattle.sc_emit_select.proofs.Common.{frame_of, function_lines, in_order, is_one, length, nat_lt, need_step}
-use Rattle.sc_emit_select.proofs.Common.{needed_in, negsuc, plainly, plan_of, pos, prologue, row_needs, select_step}
-use Rattle.sc_emit_select.proofs.Common.{true, ℕ, ◌++◌, ◌∙◌, ◌∷◌, ◌≡◌}
+use Rattle.sc_emit_select.proofs.Common.{Addi, Bne, Bool, Branch, CodeTree, Ecall, FrameTree, Function, Jal, Jalr, Line}
+use Rattle.sc_emit_select.proofs.Common.{List, Load, Lw, Need, None, Op, OpImm, Piece, Place, Plan as Way, Register}
+use Rattle.sc_emit_select.proofs.Common.{Slot, Some, Store, Sub, Sw, [], all_true, ap, branch_reach, closing, code_of}
+use Rattle.sc_emit_select.proofs.Common.{code_of_lines, false, frame_of, function_lines, in_order, is_near, is_one}
+use Rattle.sc_emit_select.proofs.Common.{leaves_heap, length, nat_lt, need_step, needed_in, negsuc, not, plainly}
+use Rattle.sc_emit_select.proofs.Common.{plan_of, pos, prologue, row_needs, select_step, true, with_parts, ℕ, ◌++◌, ◌∙◌}
+use Rattle.sc_emit_select.proofs.Common.{◌∷◌, ◌≡◌}
 use Rattle.sc_base.specs.declared.op.BinaryOp.TheVariants as op
 use Rattle.sc_event.specs.declared.row.Entry.TheVariants as entry
 use Rattle.sc_tac.specs.declared.stmt.TacStmt.TheOpen as tac
@@ -43,12 +44,19 @@ lines_are plan places near =
     ap (outlined (framed plan places) places plan)
     (rows_are Piece (select_step (framed plan places) places (way plan near)) plan.body)
 
+abbrev pub asks_heap : Plan → Bool
+asks_heap plan = not (all_true (rows Bool (with_parts leaves_heap) plan.body))
+
 pub code_is : (plan : Plan) (places : List Place) → code_of (function plan) places (framed plan places) ≡
-    code_of_lines (lines_by plan places (nat_lt (length (lines_by plan places true)) branch_reach))
+    code_of_lines (asks_heap plan) (lines_by plan places (nat_lt (length (lines_by plan places true)) branch_reach))
 code_is plan places =
-    ap (λ lines. code_of_lines (function_lines (framed plan places) places (plan_of (function plan)
+    ap (λ tests. code_of_lines (not (all_true tests)) (function_lines (framed plan places) places
+    (plan_of (function plan) (is_near (function plan) places (framed plan places))) (function plan)))
+    (rows_are Bool (with_parts leaves_heap) plan.body) ∙
+    ap (λ lines. code_of_lines (asks_heap plan) (function_lines (framed plan places) places (plan_of (function plan)
     (nat_lt (length lines) branch_reach)) (function plan))) (lines_are plan places true) ∙
-    ap code_of_lines (lines_are plan places (nat_lt (length (lines_by plan places true)) branch_reach))
+    ap (code_of_lines (asks_heap plan))
+    (lines_are plan places (nat_lt (length (lines_by plan places true)) branch_reach))
 
 -- `int down(int n) { while (n) n = n - 1; return n; }`
 abbrev pub down : Plan
@@ -76,6 +84,7 @@ pub down_code : code_of (function down) down_places (framed down down_places) �
       Load Lw 3 2 (pos 4) ∷ OpImm Addi 10 3 (pos 0) ∷ Load Lw 1 2 (pos 0) ∷
       OpImm Addi 2 2 (pos 8) ∷ Jalr 0 1 (pos 0) ∷ Load Lw 1 2 (pos 0) ∷ OpImm Addi 2 2 (pos 8) ∷ Jalr 0 1 (pos 0) ∷ [];
   relocations = [];
+  heap = false;
 }
 down_code = code_is down down_places
 
@@ -101,5 +110,34 @@ pub calls_code : code_of (function calls) calls_places (framed calls calls_place
       Jal 1 (pos 0) ∷ Store Sw 2 10 (pos 4) ∷ Load Lw 10 2 (pos 4) ∷ Load Lw 1 2 (pos 0) ∷ OpImm Addi 2 2 (pos 8) ∷
       Jalr 0 1 (pos 0) ∷ OpImm Addi 10 0 (pos 0) ∷ Load Lw 1 2 (pos 0) ∷ OpImm Addi 2 2 (pos 8) ∷ Jalr 0 1 (pos 0) ∷ [];
   relocations = record { at = 4; target = Function 1 } ∷ [];
+  heap = false;
 }
 calls_code = code_is calls calls_places
+
+-- three words for each of two elements, which are given back
+abbrev pub keeps : Plan
+keeps = record {
+  comp = 0;
+  entry = Some entry.Main;
+  params = 0;
+  result = true;
+  temps = 3;
+  objects = [];
+  nodes = 5;
+  body = word 0 2 (Then (tac.Alloc 1 0 3) (Then (tac.Free 1) (word 2 0 (give 2))));
+}
+
+abbrev pub keeps_places : List Place
+keeps_places = Register 0 ∷ Slot 0 ∷ Register 0 ∷ []
+
+pub keeps_code : code_of (function keeps) keeps_places (framed keeps keeps_places) ≡ record {
+  instrs =
+      OpImm Addi 2 2 (negsuc 7) ∷ Store Sw 2 1 (pos 0) ∷ OpImm Addi 3 0 (pos 2) ∷ OpImm Addi 10 3 (pos 0) ∷
+      OpImm Addi 11 0 (pos 3) ∷ OpImm Addi 17 0 (pos 3) ∷ Ecall ∷ Store Sw 2 10 (pos 4) ∷
+      Load Lw 10 2 (pos 4) ∷ OpImm Addi 17 0 (pos 4) ∷ Ecall ∷ OpImm Addi 3 0 (pos 0) ∷
+      OpImm Addi 10 3 (pos 0) ∷ Load Lw 1 2 (pos 0) ∷ OpImm Addi 2 2 (pos 8) ∷ Jalr 0 1 (pos 0) ∷
+      OpImm Addi 10 0 (pos 0) ∷ Load Lw 1 2 (pos 0) ∷ OpImm Addi 2 2 (pos 8) ∷ Jalr 0 1 (pos 0) ∷ [];
+  relocations = [];
+  heap = true;
+}
+keeps_code = code_is keeps keeps_places

@@ -118,6 +118,8 @@ module _ (frame : FrameTree) (places : List Place) (plan : Plan) where
   layer_sized (tac.CallCross dest comp index args) h = record { sized = λ b c. refl }
   layer_sized (tac.Input dest) h = record { sized = λ b c. refl }
   layer_sized (tac.Output value) h = record { sized = λ b c. refl }
+  layer_sized (tac.Alloc dest count words) h = record { sized = λ b c. refl }
+  layer_sized (tac.Free pointer) h = record { sized = λ b c. refl }
   layer_sized (tac.Return value) h = record { sized = λ b c. refl }
 
   pub stmt_sized : (stmt : TacStmt) → IsSized (select frame places plan stmt)

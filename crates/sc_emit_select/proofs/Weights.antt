@@ -372,6 +372,29 @@ module _ (frame : FrameTree) (places : List Place) (plan : Plan) where
   input_few : (dest : Option ℕ) → length (environment_call 1 ++ receive frame places dest) ≤ 5
   input_few dest = omega (arith, receive_few dest)
 
+  alloc_few : (dest count words : ℕ) →
+      length (brought frame 10 (slice_get places count) ++ loading 11 words ++ environment_call 3 ++
+      put frame 10 (slice_get places dest)) ≤ 10
+  alloc_few dest count words =
+      let given : List Instr = brought frame 10 (slice_get places count) in
+      omega (
+        arith,
+        length-append (given ++ loading 11 words ++ environment_call 3) (put frame 10 (slice_get places dest)),
+        length-append (given ++ loading 11 words) (environment_call 3),
+        length-append given (loading 11 words),
+        brought_few frame 10 (slice_get places count),
+        load_constant 11 words,
+        put_few frame 10 (slice_get places dest),
+      )
+
+  free_few : (pointer : ℕ) → length (brought frame 10 (slice_get places pointer) ++ environment_call 4) ≤ 5
+  free_few pointer =
+      omega (
+        arith,
+        length-append (brought frame 10 (slice_get places pointer)) (environment_call 4),
+        brought_few frame 10 (slice_get places pointer),
+      )
+
   output_few : (value : ℕ) → length (brought frame 10 (slice_get places value) ++ environment_call 2) ≤ 8
   output_few value =
       omega (
@@ -607,6 +630,8 @@ module _ (frame : FrameTree) (places : List Place) (plan : Plan) where
   layer_small (tac.Input dest) h is =
       straightly_few (environment_call 1 ++ receive frame places dest) 5 (input_few dest)
   layer_small (tac.Output value) h is = straightly_few _ 8 (output_few value)
+  layer_small (tac.Alloc dest count words) h is = straightly_few _ 10 (alloc_few dest count words)
+  layer_small (tac.Free pointer) h is = straightly_few _ 5 (free_few pointer)
   layer_small (tac.Return value) h is = straightly_few _ 8 (return_few value)
 
   stmt_small : (stmt : TacStmt) → Small stmt

@@ -1,6 +1,6 @@
 -- Lines of code.
 use Rattle.sc_emit_select.specs.Common.{CodeTree, Instr, Relocation, Target}
-use Rattle.std.specs.Prelude.{ℕ, suc, List, [], ◌∷◌, ◌++◌, map, Option, None, Some}
+use Rattle.std.specs.Prelude.{ℕ, suc, Bool, List, [], ◌∷◌, ◌++◌, map, Option, None, Some}
 
 -- an instruction, and what it refers to that the linker knows
 pub record Line : Type 0 where
@@ -31,5 +31,6 @@ abbrev pub relocations_from : ℕ → List Line → List Relocation
 relocations_from at [] = []
 relocations_from at (line ∷ lines) = relocation_of at line.target ++ relocations_from (suc at) lines
 
-abbrev pub code_of_lines : List Line → CodeTree
-code_of_lines lines = record { instrs = map (λ line. line.instr) lines; relocations = relocations_from 0 lines }
+abbrev pub code_of_lines : (heap : Bool) → List Line → CodeTree
+code_of_lines heap lines =
+    record { instrs = map (λ line. line.instr) lines; relocations = relocations_from 0 lines; heap = heap }

@@ -1,6 +1,6 @@
 -- Pieces of machine code: a word loaded into a register, words of the frame near the stack pointer and far from it, the
 -- places of temporaries, the prologue and the epilogue of a function (RISC-V Unprivileged ISA, RV32I).
-pub use Rattle.rv_code.specs.Registers.{a0, a7, ra, sp}
+pub use Rattle.rv_code.specs.Registers.{a0, a1, a7, ra, sp}
 use Rattle.sc_emit_select.specs.Common.{Add, Addi, Instr, Jalr, Load, Lui, Lw, Op, OpImm, Store, Sw, Upper, signed_of}
 use Rattle.sc_emit_select.specs.Common.{sub_word}
 use Rattle.rv_code.specs.Prelude.{signed}

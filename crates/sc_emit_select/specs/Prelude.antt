@@ -4,7 +4,7 @@ pub use Rattle.rv_code.specs.declared.instr.Instr.TheVariants.{Jal, Load, Op, Op
 pub use Rattle.rv_code.specs.declared.instr.OpImmOp.TheVariants.{Addi, Sltiu, Xori}
 pub use Rattle.rv_code.specs.declared.instr.OpOp.TheVariants.{Add, Slt, Sltu}
 pub use Rattle.sc_tac.specs.Prelude.{IsCode, IsFunction, entry_weight, is_place, is_unsigned, one_or_none}
-pub use Rattle.sc_tac.specs.Prelude.{register_count, weight}
+pub use Rattle.sc_tac.specs.Prelude.{register_count, uses_heap, weight}
 pub use Rattle.sc_tac.specs.declared.frame.FrameTree.{FrameTree}
 pub use Rattle.sc_tac.specs.declared.place.Place.{Place}
 pub use Rattle.sc_emit_select.specs.Bounds.{Fits, FitsBetween, FitsLoop, most_lines}
@@ -19,9 +19,9 @@ pub use Rattle.sc_emit_select.specs.Needs.{row_needs}
 pub use Rattle.sc_emit_select.specs.Operators.{added_by, binary_code, binary_short, by_sign, bytes_ahead, bytes_of}
 pub use Rattle.sc_emit_select.specs.Operators.{inverted, is_not_zero, is_zero, less_than, op_code, pointer_difference}
 pub use Rattle.sc_emit_select.specs.Operators.{pointer_move, short, short_code, short_form, stepped, unary_code}
-pub use Rattle.sc_emit_select.specs.Pieces.{a0, a7, address_scratch, epilogue, far_from_sp, first_scratch, frame_taken}
-pub use Rattle.sc_emit_select.specs.Pieces.{is_short, load_word, loading, lower_part, move, moved_by, ra, register_of}
-pub use Rattle.sc_emit_select.specs.Pieces.{second_scratch, sp, store_word, upper_part}
+pub use Rattle.sc_emit_select.specs.Pieces.{a0, a1, a7, address_scratch, epilogue, far_from_sp, first_scratch}
+pub use Rattle.sc_emit_select.specs.Pieces.{frame_taken, is_short, load_word, loading, lower_part, move, moved_by, ra}
+pub use Rattle.sc_emit_select.specs.Pieces.{register_of, second_scratch, sp, store_word, upper_part}
 pub use Rattle.sc_emit_select.specs.Selection.{Breaks, Kind, Piece, Plain, Plan, Strays, Tests, all_plain, as_one}
 pub use Rattle.sc_emit_select.specs.Selection.{at_hand, before_test, between, branch_back, branch_reach, breaking}
 pub use Rattle.sc_emit_select.specs.Selection.{breaks, brought, call_cross, call_own, choice, choosing, closing}

@@ -1,7 +1,7 @@
 -- Instruction selection: the instructions of each statement of three-address code, where each temporary has its place.
 use Rattle.sc_emit_select.specs.Common.{Addi, Branch, CodeTree, Ecall, Entry as EntryOf, FrameTree, Function, Global}
 use Rattle.sc_emit_select.specs.Common.{Instr, Jal, Jalr, Load, Lui, Lw, OpImm, Place, Store, Sw, TacOp, TacStmt}
-use Rattle.sc_emit_select.specs.Common.{TacStmt-F, Upper, fold-TacStmt}
+use Rattle.sc_emit_select.specs.Common.{TacStmt-F, Upper, fold-TacStmt, uses_heap}
 use Rattle.std.specs.Prelude.{ℕ, zero, suc, pos, ◌+◌, ◌*◌, List, [], ◌∷◌, ◌++◌, map, length, Option, None, Some}
 use Rattle.std.specs.Prelude.{slice_get, neg_ℤ, ◌==◌, ◌&&◌, ◌-◌, if◌then◌else◌, Bool, drop, false, is_some, not, true}
 use Rattle.std.specs.Prelude.{nat_lt, take as take_prefix}
@@ -20,8 +20,8 @@ use Rattle.sc_emit_select.specs.declared.roles.Role.TheVariants.{Applies, Loads,
 use Rattle.sc_emit_select.specs.declared.roles.Role.TheVariants.{Stores}
 use Rattle.sc_emit_select.specs.Needs.{has_mark, needed_in}
 use Rattle.sc_emit_select.specs.Lines.{Line, plain, plainly, referring, code_of_lines}
-use Rattle.sc_emit_select.specs.Pieces.{ra, sp, first_scratch, second_scratch, a0, a7, register_of, move, loading}
-use Rattle.sc_emit_select.specs.Pieces.{moved_by, load_word, store_word, frame_taken, epilogue}
+use Rattle.sc_emit_select.specs.Pieces.{ra, sp, first_scratch, second_scratch, a0, a1, a7, register_of, move}
+use Rattle.sc_emit_select.specs.Pieces.{loading, moved_by, load_word, store_word, frame_taken, epilogue}
 use Rattle.sc_emit_select.specs.declared.operators.ShortForm.{ShortForm}
 use Rattle.sc_emit_select.specs.Operators.{op_code, short_code, short_form}
 
@@ -460,6 +460,10 @@ module _ (frame : FrameTree) (places : List Place) where
     select_step (tac.CallCross dest comp index args) = straight (call_cross dest comp index args)
     select_step (tac.Input dest) = straightly (environment_call 1 ++ receive dest)
     select_step (tac.Output value) = straightly (brought frame a0 (place_of value) ++ environment_call 2)
+    select_step (tac.Alloc dest count words) =
+        straightly (brought frame a0 (place_of count) ++ loading a1 words ++ environment_call 3 ++
+        put frame a0 (place_of dest))
+    select_step (tac.Free pointer) = straightly (brought frame a0 (place_of pointer) ++ environment_call 4)
     select_step (tac.Return value) = record (straightly (return value)) { role = role_of_return value }
 
     abbrev pub select : TacStmt → Piece
@@ -481,4 +485,5 @@ is_near f places frame = nat_lt (length (function_lines frame places (plan_of f 
 
 -- the code of a function
 abbrev pub code_of : TacFnTree → List Place → FrameTree → CodeTree
-code_of f places frame = code_of_lines (function_lines frame places (plan_of f (is_near f places frame)) f)
+code_of f places frame =
+    code_of_lines (uses_heap f.body) (function_lines frame places (plan_of f (is_near f places frame)) f)

@@ -312,6 +312,8 @@ impl Backward {
             } => self.call_cross(homes, *dest, *comp, *index, args),
             TacStmt::Input { dest } => self.input(homes, *dest),
             TacStmt::Output { value } => self.output(homes, *value),
+            TacStmt::Alloc { dest, count, words } => self.allocate(homes, *dest, *count, *words),
+            TacStmt::Free { pointer } => self.free(homes, *pointer),
             TacStmt::Return { value } => self.return_value(homes, *value),
         }
     }

@@ -3,7 +3,7 @@
 ghost use Rattle.sc_core.specs.Prelude.{bytes_a_node, most_code};
 ghost use Rattle.sc_emit_select.specs.Prelude.{IsCode, IsFunction, Line, closing, code_of, code_of_lines, entry_weight};
 ghost use Rattle.sc_emit_select.specs.Prelude.{function_lines, has_mark, needed_in, plainly, plan_by, plan_of};
-ghost use Rattle.sc_emit_select.specs.Prelude.{prologue, store_arguments, weight};
+ghost use Rattle.sc_emit_select.specs.Prelude.{prologue, store_arguments, uses_heap, weight};
 ghost use Rattle.std.specs.Prelude.{◌≡◌, ◌≤◌, ◌<◌, ◌^◌, ◌+◌, ◌*◌, ◌++◌, ℕ, IfOk, OnOk, length};
 
 use crate::backward::Backward;
@@ -71,9 +71,9 @@ impl Backward {
 }
 
 // Lines in the order in which they are read.
-fn read(alloc: Global, lines: Backward) -> Result<CodeTree, OutOfMemory>
+fn read(alloc: Global, lines: Backward, heap: bool) -> Result<CodeTree, OutOfMemory>
     requires { length lines < 2 ^ 32 }
-    ensures { IfOk result (λ code. code ≡ code_of_lines lines) }
+    ensures { IfOk result (λ code. code ≡ code_of_lines heap lines) }
 {
     let mut lines = lines;
     let mut instrs = Instrs::new(alloc);
@@ -89,6 +89,7 @@ fn read(alloc: Global, lines: Backward) -> Result<CodeTree, OutOfMemory>
     Ok(CodeTree {
         instrs,
         relocations,
+        heap,
     })
 }
 
@@ -108,7 +109,8 @@ fn planned(alloc: Global, f: &TacFn, homes: &Homes) -> Result<Backward, OutOfMem
 // The lines of a function: its loops end with their tests where a branch reaches all over it.
 fn chosen(alloc: Global, f: &TacFn, places: &Places, frame: &Frame) -> Result<Backward, OutOfMemory>
     requires { bytes_a_node * f.now.nodes ≤ most_code }
-    ensures lines { IfOk result (λ lines. code_of_lines lines ≡ code_of f.now places.now frame.now) }
+    ensures lines { IfOk result (λ lines. code_of_lines (uses_heap f.now.body) lines ≡
+        code_of f.now places.now frame.now) }
     ensures few { IfOk result (λ lines. length lines < 2 ^ 32) }
 {
     let needs = needs_of(alloc, f)?;
@@ -140,5 +142,5 @@ pub fn select(alloc: Global, f: &TacFn, places: &Places, frame: &Frame) -> Resul
 {
     let lines = chosen(alloc, f, places, frame)?;
     let _tree = f.tree();
-    Ok(Code::new(read(alloc, lines)?))
+    Ok(Code::new(read(alloc, lines, f.uses_heap())?))
 }

@@ -154,6 +154,8 @@ impl Needs {
             TacStmt::CallOwn { args, .. } => self.all(args.as_slice()),
             TacStmt::CallCross { args, .. } => self.all(args.as_slice()),
             TacStmt::Output { value } => self.one(*value),
+            TacStmt::Alloc { count, .. } => self.one(*count),
+            TacStmt::Free { pointer } => self.one(*pointer),
             TacStmt::Return { value } => self.one_or_none(*value),
             _ => {}
         }

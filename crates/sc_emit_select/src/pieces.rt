@@ -33,6 +33,9 @@ pub(crate) const ADDRESS_SCRATCH: u8 = 7;
 /// The register of the first argument and of results.
 pub(crate) const A0: u8 = 10;
 
+/// The register of the second argument.
+pub(crate) const A1: u8 = 11;
+
 /// The register that says what an environment call calls.
 pub(crate) const A7: u8 = 17;
 

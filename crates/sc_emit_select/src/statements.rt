@@ -1,9 +1,9 @@
 //! Statements without others inside. Code is written from its end: what is done first is written last.
 
-ghost use Rattle.sc_emit_select.specs.Prelude.{a0, as_one, brought, choice, copied, environment_call, keep, load_from};
-ghost use Rattle.sc_emit_select.specs.Prelude.{loading, moved_by, object_offset, object_read, object_store, operation};
-ghost use Rattle.sc_emit_select.specs.Prelude.{place_of_global, plainly, put, receive, result_register, return};
-ghost use Rattle.sc_emit_select.specs.Prelude.{second_operand, short_operation, short_return, store_to, take};
+ghost use Rattle.sc_emit_select.specs.Prelude.{a0, a1, as_one, brought, choice, copied, environment_call, keep};
+ghost use Rattle.sc_emit_select.specs.Prelude.{load_from, loading, moved_by, object_offset, object_read, object_store};
+ghost use Rattle.sc_emit_select.specs.Prelude.{operation, place_of_global, plainly, put, receive, result_register};
+ghost use Rattle.sc_emit_select.specs.Prelude.{return, second_operand, short_operation, short_return, store_to, take};
 ghost use Rattle.sc_emit_select.specs.Prelude.{take_second, word_of_constant};
 ghost use Rattle.std.specs.Prelude.{◌≡◌, ◌++◌, ◌∷◌, [], ◌+◌, ◌<◌, ℕ, OnOk, Some, None, length, slice_get};
 
@@ -11,7 +11,7 @@ use crate::backward::Backward;
 use crate::homes::{Homes, register_of};
 use crate::operators::{Operands, ShortForm, short_form};
 use crate::pieces::{
-    A0, A7, FIRST_SCRATCH, SECOND_SCRATCH, SP, ZERO, addi, immediate, load, move_to, register,
+    A0, A1, A7, FIRST_SCRATCH, SECOND_SCRATCH, SP, ZERO, addi, immediate, load, move_to, register,
     store, upper,
 };
 use crate::roles::Role;
@@ -336,6 +336,34 @@ impl Backward {
     {
         self.environment_call(2)?;
         self.bring(homes, register(A0), value)
+    }
+
+    /// A temporary gets the place of a new block, of as many elements as another says, of `words` cells each.
+    pub fn allocate(
+        &mut self,
+        homes: &Homes,
+        dest: u32,
+        count: u32,
+        words: u32,
+    ) -> Result<(), OutOfMemory>
+        ensures { OnOk result (self.new ≡
+            plainly (brought homes.now.frame.now a0 (slice_get homes.now.places.now count) ++ loading a1 words ++
+            environment_call 3 ++ put homes.now.frame.now a0 (slice_get homes.now.places.now dest)) ++ self.old) }
+    {
+        self.put(homes, register(A0), dest)?;
+        self.environment_call(3)?;
+        self.loading(register(A1), words)?;
+        self.bring(homes, register(A0), count)
+    }
+
+    /// What a temporary points to is given back.
+    pub fn free(&mut self, homes: &Homes, pointer: u32) -> Result<(), OutOfMemory>
+        ensures { OnOk result (self.new ≡
+            plainly (brought homes.now.frame.now a0 (slice_get homes.now.places.now pointer) ++ environment_call 4) ++
+            self.old) }
+    {
+        self.environment_call(4)?;
+        self.bring(homes, register(A0), pointer)
     }
 }
 

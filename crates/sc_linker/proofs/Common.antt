@@ -9,14 +9,14 @@ pub use Rattle.std.proofs.Common.{slice_get, slice_index, slice_index_or, subst,
 pub use Rattle.std.proofs.Common.{take_all, true, zero, ℕ, ℤ, ⊎_elim, ◌%◌, ◌&&◌, ◌*◌, ◌++◌, ◌+◌, ◌-ℤ◌, ◌-◌, ◌/◌, ◌<◌}
 pub use Rattle.std.proofs.Common.{◌==◌, ◌^◌, ◌||◌, ◌∙◌, ◌∷◌, ◌≡◌, ◌≢◌, ◌≤◌, ◌⊎◌}
 pub use Rattle.byteorder.specs.Endian.{little_bytes}
-pub use Rattle.std.proofs.lemmas.Bool.{cases_lt, false≢true, not-true, or_parts, or_right}
+pub use Rattle.std.proofs.lemmas.Bool.{cases_lt, false≢true, not-true, or_left, or_parts, or_right}
 pub use Rattle.std.proofs.lemmas.Grind.{common_steps}
 pub use Rattle.std.proofs.lemmas.List.{get_or_append_left, length-map, length_push, map-append}
 pub use Rattle.std.proofs.lemmas.List.{replicate-append-replicate, take-map}
 pub use Rattle.std.proofs.lemmas.List.Elements.{All-append, All-cons, All-drop, All-head, All-map, All-nil, All-tail}
 pub use Rattle.std.proofs.lemmas.List.Elements.{All-take, All-weaker}
-pub use Rattle.std.proofs.lemmas.Option.{get_or_from_slice_get, slice_get-get_or, slice_get-map, slice_get_read}
-pub use Rattle.std.proofs.lemmas.Option.{slice_get_within}
+pub use Rattle.std.proofs.lemmas.Option.{get_or_from_slice_get, same_Some, slice_get-get_or, slice_get-map}
+pub use Rattle.std.proofs.lemmas.Option.{slice_get_read, slice_get_within}
 pub use Rattle.std.specs.List.{list_all, list_any}
 pub use Rattle.std.specs.Option.{option_map_or}
 pub use Rattle.sc_base.proofs.Bools.{and_first, and_rest}
@@ -45,10 +45,9 @@ pub use Rattle.rv_code.proofs.OneEach.{HasWord-own, decoded-word_of, word-below}
 pub use Rattle.rv_code.specs.Prelude.{IsImmediate, IsInstr, IsJumpOffset, IsUpper, word_of}
 pub use Rattle.sc_store.specs.Prelude.{load_of}
 pub use Rattle.sc_image.specs.Prelude.{IsByte, IsComp, IsDistinct, IsEntry, IsExport, IsImport, IsWellFormed, IsWord}
-pub use Rattle.sc_image.specs.Prelude.{code_in, code_start, exported_by, has_result}
-pub use Rattle.sc_image.specs.Prelude.{may_call_export}
-pub use Rattle.sc_image.specs.Prelude.{may_input, may_output, most_globals, export_params, stack_top}
-pub use Rattle.sc_image.specs.Prelude.{start_memory, stretch}
+pub use Rattle.sc_image.specs.Prelude.{code_in, code_start, export_params, exported_by, has_heap, has_result}
+pub use Rattle.sc_image.specs.Prelude.{may_call_export, may_input, may_output, most_globals, stack_top, start_memory}
+pub use Rattle.sc_image.specs.Prelude.{stretch}
 unfoldable pub use Rattle.sc_image.specs.Prelude.{word_at}
 pub use Rattle.sc_image.specs.declared.parts.CompPart.{CompPart}
 pub use Rattle.sc_image.specs.declared.parts.ExportPart.{ExportPart}
@@ -68,5 +67,5 @@ pub use Rattle.sc_linker.specs.Prelude.{code_sizes, codes_at, codes_in, comp_cod
 pub use Rattle.sc_linker.specs.Prelude.{entry_jump, entry_jumps, export_parts, exports_at, exports_in, function_address}
 pub use Rattle.sc_linker.specs.Prelude.{global_sizes, global_words, import_part, initial_words, instructions, is_known}
 pub use Rattle.sc_linker.specs.Prelude.{linked_codes, linked_image, section_addresses, section_at, section_code}
-pub use Rattle.sc_linker.specs.Prelude.{section_layout, section_or_none, starts}
+pub use Rattle.sc_linker.specs.Prelude.{section_layout, section_or_none, starts, use_heap}
 pub use Rattle.sc_linker.specs.declared.layout.SectionLayout.{SectionLayout}

@@ -14,8 +14,8 @@ pub use Rattle.sc_core.specs.declared.value.Cell.{Cell}
 pub use Rattle.rv_code.specs.Prelude.{IsInstr, decoded, word_of}
 pub use Rattle.rv_code.specs.declared.instr.Instr.{Instr}
 pub use Rattle.rv_code.specs.declared.instr.Instr.TheVariants.{Jal, Upper}
-pub use Rattle.sc_image.specs.Prelude.{IsWellFormed, code_start, has_result, may_call_export, may_input, may_output}
-pub use Rattle.sc_image.specs.Prelude.{most_globals, export_params, stack_top, start_memory, stretch, word_at}
+pub use Rattle.sc_image.specs.Prelude.{IsWellFormed, code_start, export_params, has_heap, has_result, may_call_export}
+pub use Rattle.sc_image.specs.Prelude.{may_input, may_output, most_globals, stack_top, start_memory, stretch, word_at}
 pub use Rattle.sc_image.specs.declared.parts.ImageParts.{ImageParts}
 pub use Rattle.sc_tac.specs.declared.machine_code.CodeTree.{CodeTree}
 pub use Rattle.sc_emit_select.specs.Prelude.{Addresses, is_named, linked, refers_only, upper_part}

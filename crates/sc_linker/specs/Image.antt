@@ -2,8 +2,9 @@
 use Rattle.sc_linker.specs.Common.{Addresses, Cell, CodeTree, ImageParts, Instr, Interface, Jal, Main, ProgramTree}
 use Rattle.sc_linker.specs.Common.{Proto, TypedSection, comp_at, entry_in, first_blocks, imports, is_input, is_output}
 use Rattle.sc_linker.specs.Common.{linked, place_named, word_of}
-use Rattle.std.specs.Prelude.{ℕ, suc, pos, ◌+◌, ◌*◌, ◌-ℤ◌, List, [], ◌∷◌, ◌++◌, length, map, flat_map, Option, None}
-use Rattle.std.specs.Prelude.{Some, false, is_some}
+use Rattle.std.specs.Prelude.{Bool, List, None, Option, Some, [], flat_map, is_some, length, map, pos, suc, ℕ, ◌*◌}
+use Rattle.std.specs.Prelude.{◌++◌, ◌+◌, ◌-ℤ◌, ◌∷◌}
+use Rattle.std.specs.List.{list_any}
 use Rattle.byteorder.specs.Endian.{little_bytes}
 use Rattle.sc_event.specs.declared.interface.Import.{Import}
 use Rattle.sc_event.specs.declared.interface.Import.TheVariants as import
@@ -62,6 +63,10 @@ cell_word (cell.Word w) = w
 cell_word cell.Null = 0
 cell_word (cell.Ptr p) = 0
 
+-- one of these codes uses the heap
+abbrev pub use_heap : List CodeTree → Bool
+use_heap codes = list_any {X = CodeTree} (λ code. code.heap) codes
+
 -- the words of a section's globals at the start, in order of declaration
 abbrev pub global_words : TypedSection → List ℕ
 global_words section = flat_map (λ block. map cell_word block.cells) (first_blocks (Some section))
@@ -79,7 +84,7 @@ linked_part interfaces comp interface section codes = record {
   name = interface.name;
   input = imports interfaces comp is_input;
   output = imports interfaces comp is_output;
-  heap = false;
+  heap = use_heap codes;
   exports = export_parts comp 0 interface.exports;
   imports = flat_map import_part interface.imports;
   code = map word_of (section_code comp (exports_in (comp_at interfaces comp)) section codes);

@@ -1,10 +1,9 @@
 -- What holds of linked images.
 use Rattle.sc_linker.specs.Common.{Cell, CodeTree, Export, ImageParts, Instr, Interface, IsInstr, IsWellFormed}
 use Rattle.sc_linker.specs.Common.{IsWellTyped, Jal, Main, ProgramTree, Proto, TypedGlobal, TypedSection, cells_at}
-use Rattle.sc_linker.specs.Common.{decoded, entry_in, export_at, globals_of, has_result, imports, is_function, is_input}
-use Rattle.sc_linker.specs.Common.{is_name, is_output, linked, may_call_export, may_input, may_output, export_params}
-use Rattle.sc_linker.specs.Common.{stack_top}
-use Rattle.sc_linker.specs.Common.{start_memory, word_at}
+use Rattle.sc_linker.specs.Common.{decoded, entry_in, export_at, export_params, globals_of, has_heap, has_result}
+use Rattle.sc_linker.specs.Common.{imports, is_function, is_input, is_name, is_output, linked, may_call_export}
+use Rattle.sc_linker.specs.Common.{may_input, may_output, stack_top, start_memory, word_at}
 use Rattle.sc_word.specs.Prelude.{add_word, word_of}
 use Rattle.sc_store.specs.Prelude.{load_of}
 use Rattle.sc_image.specs.Prelude.{entered_export as image_export, initial_globals as globals_in}
@@ -65,6 +64,9 @@ module _ (program : ProgramTree) (codes : List CodeTree) where
     pub there : (comp number : ℕ) (f : TypedFunction) →
         slice_get (section_at program comp).functions number ≡ Some f →
         (code : CodeTree) × (slice_get (codes_at program codes comp) number ≡ Some code)
+    -- in a compartment that has a heap, where it uses one
+    pub heap : (comp number : ℕ) (code : CodeTree) → slice_get (codes_at program codes comp) number ≡ Some code →
+        code.heap ≡ true → has_heap (linked_image program codes) comp ≡ true
     -- at an address that LUI and a jump reach
     pub aligned : (comp number : ℕ) → (addresses_at program codes comp).function number % 4 ≡ 0
     pub low : (comp number : ℕ) → comp < 32 → (addresses_at program codes comp).function number < 2 ^ 26

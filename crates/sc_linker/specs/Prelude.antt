@@ -9,7 +9,7 @@ unfoldable pub use Rattle.rv_code.specs.Prelude.{word_of}
 pub use Rattle.sc_tac.specs.declared.machine_code.CodeTree.{CodeTree}
 pub use Rattle.sc_linker.specs.Image.{cell_word, comp_code, comp_part, comp_parts, entry_jump, entry_jumps}
 pub use Rattle.sc_linker.specs.Image.{export_parts, function_address, global_words, import_part, linked_codes}
-pub use Rattle.sc_linker.specs.Image.{linked_image, linked_part, section_code}
+pub use Rattle.sc_linker.specs.Image.{linked_image, linked_part, section_code, use_heap}
 pub use Rattle.sc_linker.specs.Interfaces.{HasInterface, HasInterfaces, HasProto}
 pub use Rattle.sc_linker.specs.Laws.{AreNamed, EntriesStand, FunctionsStand, GlobalsAreWords, GlobalsStand}
 pub use Rattle.sc_linker.specs.Laws.{ImportsStand, IsStart, IsWhole, LinkedImagesHold, StandFrom, StandsAt}

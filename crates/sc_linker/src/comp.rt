@@ -2,7 +2,7 @@
 
 ghost use Rattle.sc_base.specs.Prelude.{most_exports};
 ghost use Rattle.sc_linker.specs.Prelude.{IsLinkable, IsNamed, IsWellTyped, IsWhole, Proto, codes_at, comp_part};
-ghost use Rattle.sc_linker.specs.Prelude.{export_parts, import_part, is_name};
+ghost use Rattle.sc_linker.specs.Prelude.{export_parts, import_part, is_name, use_heap};
 ghost use Rattle.sc_event.specs.Prelude.{comp_at};
 ghost use Rattle.std.specs.Prelude.{◌≡◌, ◌≤◌, ◌++◌, All, IfOk, IsTrue, OnOk, Some, flat_map, length};
 
@@ -64,6 +64,13 @@ fn import_parts(alloc: Global, imports: &[Import]) -> Result<ImportParts, OutOfM
     Ok(parts)
 }
 
+// Whether one of these codes uses the heap.
+fn use_heap(codes: &[Code]) -> bool
+    ensures { result ≡ use_heap codes.now }
+{
+    codes.iter().any(|code| code.tree().heap)
+}
+
 /// A compartment of a program, of this interface.
 pub fn comp_part(
     alloc: Global,
@@ -87,7 +94,7 @@ pub fn comp_part(
         name: named(&interface.name),
         input: program.interfaces.imports_input(comp),
         output: program.interfaces.imports_output(comp),
-        heap: false,
+        heap: use_heap(own),
         exports: export_parts(alloc, comp, exports)?,
         imports: import_parts(alloc, interface.imports.as_slice())?,
         code: section_code(alloc, comp, exports, section, own)?,

@@ -134,6 +134,8 @@ module _ (Here : ℕ → Type 0) where
   layer_same (tac.CallCross dest comp index args) h = plain_same args true dest
   layer_same (tac.Input dest) h = plain_same [] false dest
   layer_same (tac.Output value) h = plain_same (value ∷ []) false None
+  layer_same (tac.Alloc dest count words) h = plain_same (count ∷ []) false (Some dest)
+  layer_same (tac.Free pointer) h = plain_same (pointer ∷ []) false None
   layer_same (tac.Return value) h = λ lives lives' g. one_point _ _ (λ t here. refl)
 
   pub local : (stmt : TacStmt) → Local stmt

@@ -282,6 +282,8 @@ impl Walk {
             TacStmt::CallCross { dest, args, .. } => self.plain(args.as_slice(), true, *dest),
             TacStmt::Input { dest } => self.plain(&[], false, *dest),
             TacStmt::Output { value } => self.plain(&[*value], false, None),
+            TacStmt::Alloc { dest, count, .. } => self.plain(&[*count], false, Some(*dest)),
+            TacStmt::Free { pointer } => self.plain(&[*pointer], false, None),
             TacStmt::Return { value } => self.give_back(alloc, *value),
         }
     }

@@ -80,6 +80,8 @@ straight_level (tac.CallOwn dest function args) h all t ahead = refl
 straight_level (tac.CallCross dest comp index args) h all t ahead = refl
 straight_level (tac.Input dest) h all t ahead = refl
 straight_level (tac.Output value) h all t ahead = refl
+straight_level (tac.Alloc dest count words) h all t ahead = refl
+straight_level (tac.Free pointer) h all t ahead = refl
 straight_level (tac.Return value) h all t ahead = refl
 straight_level (tac.If cond a b) h all t ahead =
     and_from _ _ (rows_fresh a h.0 (and_first (everywhere is_straight a) _ all) t ahead)

@@ -352,6 +352,8 @@ module _ (program : ProgramTree) (typed : is_well_typed program ≡ true) where
       temps_passed (tac.Output v) h = output_names_own v h.0 h.1 h.2 h.3
       temps_passed (tac.Return v) h = own_option temps v h.1
       temps_passed (tac.Copy d x) h = absurd h
+      temps_passed (tac.Alloc dest count words) h = absurd h
+      temps_passed (tac.Free pointer) h = absurd h
 
       objects_passed : (objects : ℕ) → objects ≡ length scope.params + length scope.locals →
           Passes (names_own_object objects)
@@ -361,6 +363,7 @@ module _ (program : ProgramTree) (typed : is_well_typed program ≡ true) where
 
       words_passed : Passes has_words
       words_passed (tac.Const d c) h = h.0
+      words_passed (tac.Alloc dest count words) h = absurd h
       words_passed _ h = refl
 
       elements_passed : Passes has_elements

@@ -94,6 +94,8 @@ break_plain (tac.CallOwn dest function args) h = refl
 break_plain (tac.CallCross dest comp index args) h = refl
 break_plain (tac.Input dest) h = refl
 break_plain (tac.Output value) h = refl
+break_plain (tac.Alloc dest count words) h = refl
+break_plain (tac.Free pointer) h = refl
 break_plain (tac.Return value) h = refl
 break_plain (tac.If cond a b) h = absurd (false≢true h)
 break_plain (tac.Loop head body next) h = absurd (false≢true h)
@@ -112,6 +114,8 @@ continue_plain (tac.CallOwn dest function args) h = refl
 continue_plain (tac.CallCross dest comp index args) h = refl
 continue_plain (tac.Input dest) h = refl
 continue_plain (tac.Output value) h = refl
+continue_plain (tac.Alloc dest count words) h = refl
+continue_plain (tac.Free pointer) h = refl
 continue_plain (tac.Return value) h = refl
 continue_plain (tac.If cond a b) h = absurd (false≢true h)
 continue_plain (tac.Loop head body next) h = absurd (false≢true h)
@@ -175,6 +179,8 @@ module _ (stray : TacStmt-F Bool → Bool) (strays : Strays stray) where
   straight_level (tac.CallCross dest comp index args) h all = strays.plain (tac.CallCross dest comp index args) refl
   straight_level (tac.Input dest) h all = strays.plain (tac.Input dest) refl
   straight_level (tac.Output value) h all = strays.plain (tac.Output value) refl
+  straight_level (tac.Alloc dest count words) h all = strays.plain (tac.Alloc dest count words) refl
+  straight_level (tac.Free pointer) h all = strays.plain (tac.Free pointer) refl
   straight_level (tac.Return value) h all = strays.plain (tac.Return value) refl
   straight_level (tac.If cond a b) h all =
       strays.fork cond _ _ (rows_none a h.0 (and_first (everywhere is_straight a) _ all))

@@ -31,6 +31,8 @@ few_by_layer (tac.CallOwn dest function args) h = omega arith
 few_by_layer (tac.CallCross dest comp index args) h = omega arith
 few_by_layer (tac.Input dest) h = omega arith
 few_by_layer (tac.Output value) h = omega arith
+few_by_layer (tac.Alloc dest count words) h = omega arith
+few_by_layer (tac.Free pointer) h = omega arith
 few_by_layer (tac.Return value) h = omega arith
 
 few : (stmt : TacStmt) → Few stmt

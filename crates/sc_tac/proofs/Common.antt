@@ -8,30 +8,30 @@ pub use Rattle.std.specs.List.{list_all, range_with_len}
 pub use Rattle.sc_event.specs.declared.interface.Interfaces.{Interfaces}
 pub use Rattle.sc_core.proofs.Induction.{Each}
 pub use Rattle.sc_core.specs.Prelude.{Arith, Blocks, Break, Calls, Continue, Denotations, Function, Here, Next, Reached}
-pub use Rattle.sc_core.specs.Prelude.{Return, all_do, and_then, c_arith, choose, closed, frame_bound, functions_of}
-pub use Rattle.sc_core.specs.Prelude.{leave, load, roles_in, run_by, run_step, scripted_step, stopped_at, stored, total}
-pub use Rattle.sc_core.specs.Prelude.{wrapping}
+pub use Rattle.sc_core.specs.Prelude.{Return, all_do, and_then, c_arith, choose, closed, elements_allocated}
+pub use Rattle.sc_core.specs.Prelude.{frame_bound, functions_of, leave, load, released, roles_in, run_by, run_step}
+pub use Rattle.sc_core.specs.Prelude.{scripted_step, stopped_at, stored, total, wrapping}
 pub use Rattle.sc_core.specs.declared.cause.Cause.TheVariants.{BadType, Indeterminate, NoReturn, OutOfBounds, Overflow}
 pub use Rattle.sc_core.specs.declared.section.TypedGlobal.{TypedGlobal}
 pub use Rattle.sc_tac.specs.Common.{Entry, Event, Export, Main}
 pub use Rattle.sc_tac.specs.Prelude.{Ahead, CodeObeys, Codes, IsAssignment, IsClear, IsFunction, IsProgram, Lives}
-pub use Rattle.sc_tac.specs.Prelude.{PlacesAreClear, Point, Reading, TempSet, Share, Span, Temps, Trail, Within}
-pub use Rattle.sc_tac.specs.Prelude.{WrappedCodeAgrees, ahead_at, all_assigned_first, branch_step, branches, call_does}
-pub use Rattle.sc_tac.specs.Prelude.{calls_exports, calls_imports, calls_own, code_denotations, code_does}
+pub use Rattle.sc_tac.specs.Prelude.{PlacesAreClear, Point, Reading, Share, Span, TempSet, Temps, Trail, Within}
+pub use Rattle.sc_tac.specs.Prelude.{WrappedCodeAgrees, ahead_at, all_assigned_first, alloc_does, branch_step, branches}
+pub use Rattle.sc_tac.specs.Prelude.{call_does, calls_exports, calls_imports, calls_own, code_denotations, code_does}
 pub use Rattle.sc_tac.specs.Prelude.{code_function, code_functions, code_globals, code_meaning, code_meaning_by}
 pub use Rattle.sc_tac.specs.Prelude.{code_step, code_wrapped, constant_value, enters_by_words, entry_known}
-pub use Rattle.sc_tac.specs.Prelude.{entry_weight, everywhere, from_here, function_points, gets, has_call, has_elements}
-pub use Rattle.sc_tac.specs.Prelude.{has_none, has_operands, has_words, if_calls, in_body, in_head, in_next}
-pub use Rattle.sc_tac.specs.Prelude.{interval_of, intervals_of, is_assigned_first, is_entered, is_one, is_unsigned}
-pub use Rattle.sc_tac.specs.Prelude.{is_used, known, live_across, live_at_start, live_before, loop_points}
-pub use Rattle.sc_tac.specs.Prelude.{names_own_global, names_own_object, names_own_temps, no_temps, nothing_ahead}
-pub use Rattle.sc_tac.specs.Prelude.{nothing_live, one_or_none, op_does, operated, or_first, part_ahead, part_lives}
-pub use Rattle.sc_tac.specs.Prelude.{passes_few, plain, plain_points, point, points, read, read_all, reading_step}
-pub use Rattle.sc_tac.specs.Prelude.{readings, received, return_does, returns_result, round_first, row_first, row_fresh}
-pub use Rattle.sc_tac.specs.Prelude.{row_points, same_entry, scripted_code_by, scripted_code_meaning, second, some_hold}
-pub use Rattle.sc_tac.specs.Prelude.{span_from, start_of, stmt_branches, stmt_does, stmt_weight, store_does}
-pub use Rattle.sc_tac.specs.Prelude.{stray_break, stray_continue, trail, trail_step, weight, weight_step, with_parts}
-pub use Rattle.sc_tac.specs.Prelude.{with_temp}
+pub use Rattle.sc_tac.specs.Prelude.{entry_weight, everywhere, free_does, from_here, function_points, gets, has_call}
+pub use Rattle.sc_tac.specs.Prelude.{has_elements, has_none, has_operands, has_words, if_calls, in_body, in_head}
+pub use Rattle.sc_tac.specs.Prelude.{in_next, interval_of, intervals_of, is_assigned_first, is_entered, is_one}
+pub use Rattle.sc_tac.specs.Prelude.{is_unsigned, is_used, known, leaves_heap, live_across, live_at_start, live_before}
+pub use Rattle.sc_tac.specs.Prelude.{loop_points, names_own_global, names_own_object, names_own_temps, no_temps}
+pub use Rattle.sc_tac.specs.Prelude.{nothing_ahead, nothing_live, one_or_none, op_does, operated, or_first, part_ahead}
+pub use Rattle.sc_tac.specs.Prelude.{part_lives, passes_few, plain, plain_points, point, points, read, read_all}
+pub use Rattle.sc_tac.specs.Prelude.{reading_step, readings, received, return_does, returns_result, round_first}
+pub use Rattle.sc_tac.specs.Prelude.{row_first, row_fresh, row_points, same_entry, scripted_code_by}
+pub use Rattle.sc_tac.specs.Prelude.{scripted_code_meaning, second, some_hold, span_from, start_of, stmt_branches}
+pub use Rattle.sc_tac.specs.Prelude.{stmt_does, stmt_weight, store_does, stray_break, stray_continue, trail, trail_step}
+pub use Rattle.sc_tac.specs.Prelude.{uses_heap, weight, weight_step, with_parts, with_temp}
 pub use Rattle.sc_tac.specs.declared.function.TacFnTree.{TacFnTree}
 pub use Rattle.sc_tac.specs.declared.program.TacSection.{TacSection}
 pub use Rattle.sc_tac.specs.declared.program.TacTree.{TacTree}

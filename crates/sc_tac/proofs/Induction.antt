@@ -30,6 +30,8 @@ module _ (P : TacStmt → Type 0) where
   inside (tac.CallCross dest comp index args) = tt
   inside (tac.Input dest) = tt
   inside (tac.Output value) = tt
+  inside (tac.Alloc dest count words) = tt
+  inside (tac.Free pointer) = tt
   inside (tac.Return value) = tt
 
   -- To prove P of every statement, prove it of one where P holds of each statement directly inside.

@@ -1,6 +1,7 @@
 pub mod Common
 mod Bounds
 pub mod Clear
+pub mod HeapRuns
 pub mod Induction
 pub mod Matching
 pub mod Owned

@@ -1,12 +1,13 @@
 -- Code under two arithmetics, of which the second gives what the first does or the first blames: its functions match.
 use Rattle.sc_tac.proofs.Common.{Arith, Blocks, Break, Calls, CodeObeys, Codes, Continue, Each, Here, List, Main, Next}
 use Rattle.sc_tac.proofs.Common.{None, Option, Reached, Result, Return, Some, TacFnTree, TacSection, TacStmt, TacStmt-F}
-use Rattle.sc_tac.proofs.Common.{TacTree, Temps, WrappedCodeAgrees, [], and_then, c_arith, call_does, choose, closed}
-use Rattle.sc_tac.proofs.Common.{code_denotations, code_does, code_function, code_functions, code_globals, code_step}
-use Rattle.sc_tac.proofs.Common.{constant_value, false, fold-roll-TacStmt, functions_of, gets, is_unsigned, known}
-use Rattle.sc_tac.proofs.Common.{leave, load, map, map-TacStmt, no_temps, op_does, operated, read, read_all, received}
-use Rattle.sc_tac.proofs.Common.{refl, return_does, roles_in, roll-TacStmt, same_entry, second, start_of, stmt_does}
-use Rattle.sc_tac.proofs.Common.{store_does, stored, subst, sym, true, with_temp, wrapping, ℕ, ◌+◌, ◌∷◌, ◌≡◌}
+use Rattle.sc_tac.proofs.Common.{TacTree, Temps, WrappedCodeAgrees, [], alloc_does, and_then, c_arith, call_does}
+use Rattle.sc_tac.proofs.Common.{choose, closed, code_denotations, code_does, code_function, code_functions}
+use Rattle.sc_tac.proofs.Common.{code_globals, code_step, constant_value, elements_allocated, false, fold-roll-TacStmt}
+use Rattle.sc_tac.proofs.Common.{free_does, functions_of, gets, is_unsigned, known, leave, load, map, map-TacStmt}
+use Rattle.sc_tac.proofs.Common.{no_temps, op_does, operated, read, read_all, received, refl, released, return_does}
+use Rattle.sc_tac.proofs.Common.{roles_in, roll-TacStmt, same_entry, second, start_of, stmt_does, store_does, stored}
+use Rattle.sc_tac.proofs.Common.{subst, sym, true, with_temp, wrapping, ℕ, ◌+◌, ◌∷◌, ◌≡◌}
 use Rattle.sc_core_laws.specs.Prelude.{DenotationsMatch, FunctionsMatch, IsArithmetic, Match, Never}
 use Rattle.sc_core.specs.declared.cause.Cause.{Cause}
 use Rattle.sc_core.specs.declared.expr.CallTarget.{CallTarget}
@@ -14,6 +15,7 @@ use Rattle.sc_core.specs.declared.expr.CallTarget.TheVariants.{Own, Cross, Input
 use Rattle.sc_core.specs.declared.value.Value.{Value}
 use Rattle.sc_core_laws.proofs.Expressions.{ArithKeeps, Keeps, alike, on_words_keep, one_keeps}
 use Rattle.sc_core_laws.proofs.InteractionTrees.{MatchWith, match_reached, match_then, match_computed, match_store}
+use Rattle.sc_core_laws.proofs.InteractionTrees.{match_elements, match_released}
 use Rattle.sc_core_laws.proofs.InteractionTrees.{match_call, match_if, match_leave, match_all, match_loop}
 use Rattle.sc_core_laws.proofs.Statements.{Pairs, meets_at, lists_at, itself_keeps, closed_matches}
 use Rattle.sc_core_laws.proofs.ProgramLaws.{wrapped_agrees, wrapping_agrees}
@@ -80,6 +82,23 @@ module _ (Soft : Cause → Type 0) (here : Here) where
       match_then Soft here _ _ (λ result by. leave Next (received dest result temps))
       (λ result by. leave Next (received dest result temps)) (match_call Soft here target vs) (λ result.
       match_leave Soft here Next (received dest result temps)))
+
+  alloc_matches : (dest count words : ℕ) →
+      CodesMatch (λ by. alloc_does here dest count words) (λ by. alloc_does here dest count words)
+  alloc_matches dest count words temps =
+      match_then Soft here _ _
+      (λ v by s. and_then (elements_allocated here v words 0 s) (λ q s. leave Next (with_temp dest q temps) s))
+      (λ v by s. and_then (elements_allocated here v words 0 s) (λ q s. leave Next (with_temp dest q temps) s))
+      (read_matches count temps) (λ v.
+      match_then Soft here _ _ (λ q by. leave Next (with_temp dest q temps))
+      (λ q by. leave Next (with_temp dest q temps)) (match_elements Soft here v words 0) (λ q.
+      match_leave Soft here Next (with_temp dest q temps)))
+
+  free_matches : (pointer : ℕ) → CodesMatch (λ by. free_does here pointer) (λ by. free_does here pointer)
+  free_matches pointer temps =
+      match_then Soft here _ _ (λ v by. released here v 0 temps) (λ v by. released here v 0 temps)
+      (read_matches pointer temps) (λ v.
+      match_released Soft here v 0 temps)
 
   return_matches : (value : Option ℕ) → CodesMatch (λ by. return_does here value) (λ by. return_does here value)
   return_matches None temps = match_leave Soft here (Return None) temps
@@ -174,6 +193,8 @@ module _ (Soft : Cause → Type 0) (ar br : Arith) (arith : ArithKeeps Soft ar b
         call_matches Soft here dest (Cross comp index) args temps
     layer_matches (tac.Input dest) h temps = call_matches Soft here dest Input [] temps
     layer_matches (tac.Output value) h temps = call_matches Soft here None Output (value ∷ []) temps
+    layer_matches (tac.Alloc dest count words) h temps = alloc_matches Soft here dest count words temps
+    layer_matches (tac.Free pointer) h temps = free_matches Soft here pointer temps
     layer_matches (tac.Return value) h temps = return_matches Soft here value temps
 
     layer_is : (arith : Arith) (layer : TacStmt-F TacStmt) → layered layer arith ≡

@@ -223,6 +223,8 @@ module _ (temps : ℕ) where
   layer_own (tac.CallCross dest comp index args) i h = plain_own args true dest (and_first _ _ h)
   layer_own (tac.Input dest) i h = plain_own [] false dest (and_first _ _ h)
   layer_own (tac.Output value) i h = plain_own (value ∷ []) false None (and_first _ _ h)
+  layer_own (tac.Alloc dest count words) i h = plain_own (count ∷ []) false (Some dest) (and_first _ _ h)
+  layer_own (tac.Free pointer) i h = plain_own (pointer ∷ []) false None (and_first _ _ h)
   layer_own (tac.Return value) i h = record {
     reads = λ t ahead own. among t (one_or_none value) (and_first _ _ h);
     points = λ lives own. ((λ t. among t (one_or_none value) (and_first _ _ h)), tt);

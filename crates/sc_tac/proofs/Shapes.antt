@@ -48,6 +48,8 @@ module _ (R : Type 0) (step : TacStmt-F R → R) where
   folded_leaf (tac.CallCross dest comp index args) = refl
   folded_leaf (tac.Input dest) = refl
   folded_leaf (tac.Output value) = refl
+  folded_leaf (tac.Alloc dest count words) = refl
+  folded_leaf (tac.Free pointer) = refl
   folded_leaf (tac.Return value) = refl
 
   -- a fold of each statement is its recursion on the shape

@@ -1,9 +1,10 @@
 -- The meaning of three-address code, by the combinators of programs' meaning.
 use Rattle.sc_tac.specs.Common.{Arith, Blocks, Break, Calls, Continue, Denotations, Does, Entry, Event, Function, Here}
 use Rattle.sc_tac.specs.Common.{Main, Memory, Next, Piece, Reached, Return, Run, State, Step, all_do, and_then}
-use Rattle.sc_tac.specs.Common.{applied_one, between, c_arith, choose, closed, computed, depth_in, frame_bound}
-use Rattle.sc_tac.specs.Common.{global_block, leave, load, loop, moved, moved_back, moved_on, on_words, roles_in}
-use Rattle.sc_tac.specs.Common.{run_by, run_step, scripted_step, stopped_at, stored, struct_zeros, wrapping}
+use Rattle.sc_tac.specs.Common.{applied_one, between, c_arith, choose, closed, computed, depth_in, elements_allocated}
+use Rattle.sc_tac.specs.Common.{frame_bound, global_block, leave, load, loop, moved, moved_back, moved_on, on_words}
+use Rattle.sc_tac.specs.Common.{released, roles_in, run_by, run_step, scripted_step, stopped_at, stored, struct_zeros}
+use Rattle.sc_tac.specs.Common.{wrapping}
 use Rattle.std.specs.Prelude.{ℕ, pos, ◌+◌, Bool, true, false, ◌&&◌, ◌==◌, if◌then◌else◌, List, [], ◌∷◌, map, Option}
 use Rattle.std.specs.Prelude.{None, Some, Result, Ok, Err, slice_get}
 use Rattle.std.specs.List.{position}
@@ -133,6 +134,14 @@ module _ (here : Here) where
       and_then (calls here.comp target vs s) (λ result s.
       leave Next (received dest result temps) s))
 
+  abbrev pub alloc_does : (dest count words : ℕ) → Codes
+  alloc_does dest count words temps s =
+      and_then (read count temps s) (λ v s.
+      and_then (elements_allocated here v words 0 s) (λ q s. leave Next (with_temp dest q temps) s))
+
+  abbrev pub free_does : ℕ → Codes
+  free_does pointer temps s = and_then (read pointer temps s) (λ v s. released here v 0 temps s)
+
   abbrev pub return_does : Option ℕ → Codes
   return_does None temps s = leave (Return None) temps s
   return_does (Some t) temps s = and_then (read t temps s) (λ v s. leave (Return (Some v)) temps s)
@@ -158,6 +167,8 @@ module _ (arith : Arith) (here : Here) (calls : Calls) where
   code_step (tac.CallCross dest comp index args) temps s = call_does here calls dest (Cross comp index) args temps s
   code_step (tac.Input dest) temps s = call_does here calls dest Input [] temps s
   code_step (tac.Output value) temps s = call_does here calls None Output (value ∷ []) temps s
+  code_step (tac.Alloc dest count words) temps s = alloc_does here dest count words temps s
+  code_step (tac.Free pointer) temps s = free_does here pointer temps s
   code_step (tac.Return value) temps s = return_does here value temps s
 
   abbrev pub stmt_does : TacStmt → Codes

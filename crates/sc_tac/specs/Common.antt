@@ -4,7 +4,7 @@ pub use Rattle.sc_event.specs.declared.row.Entry.{Entry}
 pub use Rattle.sc_event.specs.declared.row.Entry.TheVariants.{Export, Main}
 pub use Rattle.sc_core.specs.Prelude.{Arith, Blocks, Break, Calls, Continue, Denotations, Does, Function, Here, Memory}
 pub use Rattle.sc_core.specs.Prelude.{Next, Piece, Reached, Return, Run, State, Step, all_do, and_then, applied_one}
-pub use Rattle.sc_core.specs.Prelude.{between, c_arith, choose, closed, computed, depth_in, frame_bound, global_block}
-pub use Rattle.sc_core.specs.Prelude.{leave, load, loop, most_nodes, most_params, moved, moved_back, moved_on, on_words}
-pub use Rattle.sc_core.specs.Prelude.{roles_in, run_by, run_step, scripted_step, stopped_at, stored, struct_zeros}
-pub use Rattle.sc_core.specs.Prelude.{total, truth, wrapping}
+pub use Rattle.sc_core.specs.Prelude.{between, c_arith, choose, closed, computed, depth_in, elements_allocated}
+pub use Rattle.sc_core.specs.Prelude.{frame_bound, global_block, leave, load, loop, most_nodes, most_params, moved}
+pub use Rattle.sc_core.specs.Prelude.{moved_back, moved_on, on_words, released, roles_in, run_by, run_step}
+pub use Rattle.sc_core.specs.Prelude.{scripted_step, stopped_at, stored, struct_zeros, total, truth, wrapping}

@@ -30,7 +30,7 @@ abbrev pub is_machine_word : Constant → Bool
 is_machine_word (constant.Word w) = nat_lt w (2 ^ 32)
 is_machine_word constant.Null = true
 
--- a constant of a statement is one
+-- the constants of a statement are such, and so are the sizes of elements that it allocates
 abbrev pub has_words : TacStmt-F Bool → Bool
 has_words (tac.Const dest value) = is_machine_word value
 has_words (tac.Copy dest from) = true
@@ -47,6 +47,8 @@ has_words (tac.CallOwn dest function args) = true
 has_words (tac.CallCross dest comp index args) = true
 has_words (tac.Input dest) = true
 has_words (tac.Output value) = true
+has_words (tac.Alloc dest count words) = nat_lt words (2 ^ 32)
+has_words (tac.Free pointer) = true
 has_words (tac.Return value) = true
 
 -- an element has a cell at least, and few
@@ -129,3 +131,13 @@ pub record IsFunction (f : TacFnTree) : Type 0 where
   pub breaks_in_loops : IsTrue (has_none stray_break f.body)
   pub continues_in_bodies : IsTrue (has_none stray_continue f.body)
   pub assigned_first : IsTrue (all_assigned_first f.temps f.body)
+
+-- a statement neither allocates nor frees
+abbrev pub leaves_heap : TacStmt-F Bool → Bool
+leaves_heap (tac.Alloc dest count words) = false
+leaves_heap (tac.Free pointer) = false
+leaves_heap _ = true
+
+-- some statement of code allocates or frees
+abbrev pub uses_heap : List TacStmt → Bool
+uses_heap stmts = not (everywhere leaves_heap stmts)

@@ -26,6 +26,8 @@ module _ {R : Type 0} where
   temps_read (tac.CallCross dest comp index args) = args
   temps_read (tac.Input dest) = []
   temps_read (tac.Output value) = value ∷ []
+  temps_read (tac.Alloc dest count words) = count ∷ []
+  temps_read (tac.Free pointer) = pointer ∷ []
   temps_read (tac.Return value) = one_or_none value
 
   -- the temporary that it assigns
@@ -45,6 +47,8 @@ module _ {R : Type 0} where
   temp_assigned (tac.CallCross dest comp index args) = dest
   temp_assigned (tac.Input dest) = dest
   temp_assigned (tac.Output value) = None
+  temp_assigned (tac.Alloc dest count words) = Some dest
+  temp_assigned (tac.Free pointer) = None
   temp_assigned (tac.Return value) = None
 
   abbrev pub temps_named : TacStmt-F R → List ℕ

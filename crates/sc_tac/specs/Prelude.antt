@@ -1,20 +1,20 @@
 -- What this crate's contracts, its proofs and the crates above cite, passed on from one place. Declares nothing.
 pub use Rattle.sc_tac.specs.Branches.{branch_step, branches, stmt_branches}
-pub use Rattle.sc_tac.specs.Code.{Codes, Temps, call_does, code_denotations, code_depth_by, code_does, code_function}
-pub use Rattle.sc_tac.specs.Code.{code_functions, code_globals, code_meaning, code_meaning_by, code_run, code_step}
-pub use Rattle.sc_tac.specs.Code.{code_wrapped, compared, constant_value, first_blocks, function_entered, gets}
-pub use Rattle.sc_tac.specs.Code.{is_comparison, is_pointer, is_unsigned, known, no_temps, op_does, operated, read}
-pub use Rattle.sc_tac.specs.Code.{read_all, received, return_does, scripted_code_by, scripted_code_depth_by}
-pub use Rattle.sc_tac.specs.Code.{scripted_code_meaning, scripted_code_run, second, start_of, stmt_does, store_does}
-pub use Rattle.sc_tac.specs.Code.{with_temp}
+pub use Rattle.sc_tac.specs.Code.{Codes, Temps, alloc_does, call_does, code_denotations, code_depth_by, code_does}
+pub use Rattle.sc_tac.specs.Code.{code_function, code_functions, code_globals, code_meaning, code_meaning_by, code_run}
+pub use Rattle.sc_tac.specs.Code.{code_step, code_wrapped, compared, constant_value, first_blocks, free_does}
+pub use Rattle.sc_tac.specs.Code.{function_entered, gets, is_comparison, is_pointer, is_unsigned, known, no_temps}
+pub use Rattle.sc_tac.specs.Code.{op_does, operated, read, read_all, received, return_does, scripted_code_by}
+pub use Rattle.sc_tac.specs.Code.{scripted_code_depth_by, scripted_code_meaning, scripted_code_run, second, start_of}
+pub use Rattle.sc_tac.specs.Code.{stmt_does, store_does, with_temp}
 pub use Rattle.sc_tac.specs.Flow.{Ahead, Reading, all_assigned_first, is_assigned_first, is_one, nothing_ahead}
 pub use Rattle.sc_tac.specs.Flow.{part_ahead, plain, reading, reading_step, round_first, row_first, row_fresh}
 pub use Rattle.sc_tac.specs.Frames.{Apart, FrameFits, IsFrame, Range, end_of, frame_of, object_range, offsets_from}
 pub use Rattle.sc_tac.specs.Frames.{ranges_of, slots_of, slots_up_to, word_at}
 pub use Rattle.sc_tac.specs.Functions.{IsFunction, counts_elements, enters_by_words, has_elements, has_none}
-pub use Rattle.sc_tac.specs.Functions.{has_operands, has_words, is_machine_word, names_own_object, names_own_temps}
-pub use Rattle.sc_tac.specs.Functions.{passes_few, passes_words, returns_result, some_hold, stray_break, stray_continue}
-pub use Rattle.sc_tac.specs.Functions.{takes_two}
+pub use Rattle.sc_tac.specs.Functions.{has_operands, has_words, is_machine_word, leaves_heap, names_own_object}
+pub use Rattle.sc_tac.specs.Functions.{names_own_temps, passes_few, passes_words, returns_result, some_hold}
+pub use Rattle.sc_tac.specs.Functions.{stray_break, stray_continue, takes_two, uses_heap}
 pub use Rattle.sc_tac.specs.Intervals.{AreCovering, AreIntervals, Span, Within, from_here, has_call, interval_of}
 pub use Rattle.sc_tac.specs.Intervals.{intervals_of, is_used, or_first, span_from}
 pub use Rattle.sc_tac.specs.Laws.{CodeObeys, WrappedCodeAgrees}

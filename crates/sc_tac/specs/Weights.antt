@@ -37,6 +37,8 @@ weight_step (tac.CallOwn dest function args) = call_weight (length args)
 weight_step (tac.CallCross dest comp index args) = call_weight (length args)
 weight_step (tac.Input dest) = call_weight 0
 weight_step (tac.Output value) = call_weight 1
+weight_step (tac.Alloc dest count words) = 10
+weight_step (tac.Free pointer) = 5
 weight_step (tac.Return value) = 8
 
 abbrev pub stmt_weight : TacStmt → ℕ

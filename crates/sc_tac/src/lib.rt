@@ -4,6 +4,7 @@
 mod branches;
 mod frame;
 mod function;
+mod heap;
 mod interval;
 mod laws;
 mod machine_code;

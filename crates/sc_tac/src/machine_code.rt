@@ -35,6 +35,8 @@ pub type Relocations = Items<Relocation>;
 pub struct CodeTree {
     pub instrs: Instrs,
     pub relocations: Relocations,
+    /// Whether it uses the heap.
+    pub heap: bool,
 }
 
 /// The code of a function, whose relocations stand at instructions that the linker can complete: a JAL for a function,

@@ -129,6 +129,17 @@ pub enum TacStmt {
     Output {
         value: u32,
     },
+    /// The temporary `dest` gets the place of a new block of the heap: as many elements as `count` says, of `words`
+    /// cells each. It gets null where there is no room for them.
+    Alloc {
+        dest: u32,
+        count: u32,
+        words: u32,
+    },
+    /// What a pointer points to is given back to the heap.
+    Free {
+        pointer: u32,
+    },
     /// Ends the call.
     Return {
         value: Option<u32>,

@@ -47,6 +47,8 @@ fn stmt_weight(stmt: &TacStmt) -> u32
         TacStmt::CallOwn { args, .. } | TacStmt::CallCross { args, .. } => call_weight(args),
         TacStmt::Input { .. } => 5,
         TacStmt::Output { .. } => 8,
+        TacStmt::Alloc { .. } => 10,
+        TacStmt::Free { .. } => 5,
         TacStmt::Return { .. } => 8,
     }
 }
