@@ -6,7 +6,7 @@ ghost use Rattle.std.specs.Prelude.{IsTrue};
 ghost use Rattle.sc_word.specs.Word.{word_of};
 ghost use Rattle.sc_image.specs.Layout.{are_data};
 ghost use Rattle.sc_image.specs.Own.{data_of};
-ghost use Rattle.sc_image.specs.State.{reg, saved_sp, start_memory};
+ghost use Rattle.sc_image.specs.State.{reg, saved_sp, start_memory, zone_of};
 ghost use Rattle.sc_image.specs.Machine.{run, machine, continued};
 ghost use Rattle.sc_machine.specs.Progress.{state_of, run_of};
 ghost use Rattle.sc_machine.specs.Calls.{IsCalled, loaded};
@@ -21,6 +21,7 @@ use sc_base::Stop;
 use sc_event::{CompId, Event};
 use sc_image::Image;
 use sc_store::Store;
+use sc_zone::Span;
 use sqlite_items::Items;
 use std::alloc::Global;
 use std::fmt;
@@ -208,6 +209,13 @@ impl<S: Store> Machine<S> {
             return None;
         }
         Some(self.memory.load8(at) as u8)
+    }
+
+    /// The live blocks of the compartment's zone.
+    pub(crate) fn blocks_of(&self, comp: CompId) -> &[Span]
+        ensures { result.now ≡ zone_of (state_of S.bytes self.now) comp }
+    {
+        self.hart.zones.blocks(comp)
     }
 
     /// The stack pointer that a compartment gets at its next call.

@@ -4,12 +4,13 @@
 ghost use Rattle.std.specs.Prelude.{◌≡◌, ◌↔◌, ◌<◌, length, IsSome, IsTrue};
 ghost use Rattle.sc_image.specs.Layout.{are_data};
 ghost use Rattle.sc_image.specs.Own.{data_of};
-ghost use Rattle.sc_image.specs.State.{saved_sp};
+ghost use Rattle.sc_image.specs.State.{saved_sp, zone_of};
 ghost use Rattle.sc_machine.specs.Progress.{state_of};
 
 use crate::Machine;
 use sc_event::CompId;
 use sc_store::Store;
+use sc_zone::Span;
 use std::marker::Model;
 
 /// What belongs to a compartment of a machine, whether its code runs or not. Contracts see the
@@ -48,6 +49,13 @@ impl<'a, S: Store> OwnView<'a, S> {
         ensures owned { IsSome result ↔ IsTrue (are_data self.now.machine.image self.now.comp at 1) }
     {
         self.machine.byte_of(self.comp, at)
+    }
+
+    /// The live blocks of the compartment's zone, in the order of their places: none where it has no heap.
+    pub fn zone(&self) -> &[Span]
+        ensures { result.now ≡ zone_of (state_of S.bytes self.now.machine) self.now.comp }
+    {
+        self.machine.blocks_of(self.comp)
     }
 
     /// The stack pointer that the compartment gets at its next call.

@@ -8,7 +8,7 @@ ghost use Rattle.std.specs.Prelude.{unwrap_or, ◌≡◌, ◌≤◌};
 use sc_base::OutOfMemory;
 use sc_event::CompId;
 use sc_image::CompPart;
-use sc_zone::Zone;
+use sc_zone::{Span, Zone};
 use std::alloc::Global;
 use std::marker::Model;
 
@@ -42,6 +42,16 @@ impl Zones {
             each.push(zone_of(alloc, comp)?)?;
         }
         Ok(Zones { each })
+    }
+
+    /// The live blocks of a compartment's zone: none where it has no zone.
+    pub fn blocks(&self, comp: CompId) -> &[Span]
+        ensures { result.now ≡ slice_index_or self.now.blocks comp [] }
+    {
+        match self.each.get(comp.number() as usize) {
+            Some(Some(zone)) => zone.spans(),
+            _ => &[],
+        }
     }
 
     /// Takes this many words from a compartment's zone, from the least place from which they are free: `None` where

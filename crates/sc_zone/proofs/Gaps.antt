@@ -89,6 +89,43 @@ narrow_next words (s ∷ spans) from zero to d n h near = (omega (arith, near, n
 narrow_next words (s ∷ spans) from (suc count) to d n h near =
     (n.0, narrow_next words spans (s.place + s.words) count to d n.1 (omega (arith, h)) near)
 
+-- where the block before a number ends, and the first place where there is none
+abbrev pub end_before : (spans : List Span) (from number : ℕ) → ℕ
+end_before spans from zero = from
+end_before [] from (suc number) = from
+end_before (s ∷ spans) from (suc number) = end_before spans (s.place + s.words) number
+
+-- fewer of them
+pub narrow_before : (least : ℕ) (spans : List Span) (from count number to : ℕ) → number < count →
+    AreNarrow least from count spans to → AreNarrow least from number spans (end_before spans from number)
+narrow_before least spans from count zero to h n = refl
+narrow_before least spans from zero (suc number) to h n = absurd (omega (arith, h))
+narrow_before least [] from (suc count) (suc number) to h n = absurd n
+narrow_before least (s ∷ spans) from (suc count) (suc number) to h n =
+    (n.0, narrow_before least spans (s.place + s.words) count number to (omega (arith, h)) n.1)
+
+pub end_of_last : (spans : List Span) (from number : ℕ) (d : Span) → number < length spans →
+    end_before spans from (suc number) ≡ (get_or spans number d).place + (get_or spans number d).words
+end_of_last [] from number d h = absurd (omega (arith, h))
+end_of_last (s ∷ spans) from zero d h = refl
+end_of_last (s ∷ spans) from (suc number) d h = end_of_last spans (s.place + s.words) number d (omega (arith, h))
+
+-- up to a number other than 0 they end where the block before it does
+pub narrow_to_last : (least : ℕ) (spans : List Span) (count number last to : ℕ) (d : Span) → number ≡ suc last →
+    number < count → number < length spans → AreNarrow least 0 count spans to →
+    AreNarrow least 0 number spans ((get_or spans last d).place + (get_or spans last d).words)
+narrow_to_last least spans count number last to d is low within n =
+    subst (AreNarrow least 0 number spans)
+    (ap (end_before spans 0) is ∙ end_of_last spans 0 last d (omega (arith, is, within)))
+    (narrow_before least spans 0 count number to low n)
+
+pub end_within : (spans : List Span) (from number : ℕ) (d : Span) → AreLaid from spans → number < length spans →
+    (get_or spans number d).place + (get_or spans number d).words ≤ zone_words
+end_within [] from number d laid h = absurd (omega (arith, h))
+end_within (s ∷ spans) from zero d laid h = laid_to spans (s.place + s.words) laid.2
+end_within (s ∷ spans) from (suc number) d laid h =
+    end_within spans (s.place + s.words) number d laid.2 (omega (arith, h))
+
 -- where the blocks after them change
 pub narrow_insert : (least : ℕ) (spans : List Span) (x : Span) (from count to : ℕ) → AreNarrow least from count spans to →
     AreNarrow least from count (insert spans count x) to

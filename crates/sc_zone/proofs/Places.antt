@@ -3,13 +3,8 @@ use Rattle.sc_zone.proofs.Common.{Bool, List, None, Option, Some, Span, ap, arit
 use Rattle.sc_zone.proofs.Common.{if◌then◌else◌, is_free, leb-true, list_all, lt-leb, misses, nat_le, refl, subst, suc}
 use Rattle.sc_zone.proofs.Common.{sym, true, zero, zone_words, ℕ, ◌&&◌, ◌+◌, ◌<◌, ◌==◌, ◌∙◌, ◌≡◌, ◌≤◌}
 unfoldable use Rattle.sc_zone.proofs.Common.{first_free, least_free}
-
-some_place : (a b : ℕ) → Some a ≡ Some b → a ≡ b
-some_place a b is = cc
-
-first_true : (a b : Bool) → (a && b) ≡ true → a ≡ true
-first_true true b is = refl
-first_true false b is = cc is
+use Rattle.std.proofs.lemmas.Bool.{and_parts}
+use Rattle.std.proofs.lemmas.Option.{same_Some}
 
 module _ (spans : List Span) (words : ℕ) where
   passes : (free : Bool) (place : ℕ) (later : Option ℕ) → free ≡ false →
@@ -81,7 +76,7 @@ module _ (spans : List Span) (words : ℕ) where
             (if free then Some from else first_free spans words count (suc from)) ≡ Some place →
             (first_free spans words count (suc from) ≡ Some place → is_free spans words place ≡ true) →
             is_free spans words place ≡ true
-        by true free is later = subst (λ p. is_free spans words p ≡ true) (some_place from place is) free
+        by true free is later = subst (λ p. is_free spans words p ≡ true) (same_Some from place is) free
         by false free is later = later is
 
   pub least_is_free : (place : ℕ) → least_free spans words ≡ Some place → is_free spans words place ≡ true
@@ -96,7 +91,7 @@ module _ (spans : List Span) (words : ℕ) where
   pub least_is_within : (place : ℕ) → least_free spans words ≡ Some place → place + words ≤ zone_words
   least_is_within place is =
       leb-true (place + words) zone_words
-      (first_true (nat_le (place + words) zone_words) (list_all (misses words place) spans) (least_is_free place is))
+      (and_parts (nat_le (place + words) zone_words) (list_all (misses words place) spans) (least_is_free place is)).0
 
 pub least_of_none : (spans : List Span) → least_free spans 0 ≡ None
 unfolding least_free

@@ -55,6 +55,13 @@ impl Zone {
         })
     }
 
+    /// The blocks, in the order of their places.
+    pub fn spans(&self) -> &[Span]
+        ensures { result.now ≡ self.now }
+    {
+        self.spans.as_slice()
+    }
+
     // Where a search for this many words begins.
     fn first_gap(&self, words: u32) -> Gap
         ensures { AreNarrow words 0 result.next self.now result.place }
@@ -94,7 +101,7 @@ impl Zone {
         let Some(number) = number_of(self.spans.as_slice(), place) else {
             return false;
         };
-        self.searched = before(number, self.searched);
+        self.searched = before(self.spans.as_slice(), number, self.searched);
         self.spans.remove(number);
         true
     }
@@ -114,16 +121,26 @@ fn count_of(words: u64) -> Option<u32>
     Some(words as u32)
 }
 
-// The gap up to which a search needn't look once the block of this number is gone.
-fn before(number: usize, searched: Gap) -> Gap
+// The gap where a search begins once the block of this number is gone: the one before it, if all before that are known
+// to be narrow.
+fn before(spans: &[Span], number: usize, searched: Gap) -> Gap
+    requires within { number < length spans.now }
+    requires laid { AreLaid 0 spans.now }
     ensures within { result.next ≤ number }
-    ensures narrow { (least : ℕ) (spans : List Block) → AreNarrow least 0 searched.next spans searched.place →
-        AreNarrow least 0 result.next spans result.place }
+    ensures narrow { (least : ℕ) → AreNarrow least 0 searched.next spans.now searched.place →
+        AreNarrow least 0 result.next spans.now result.place }
 {
-    if number < searched.next {
-        return Gap { next: 0, place: 0 };
+    if number >= searched.next {
+        return searched;
     }
-    searched
+    let place = match number.checked_sub(1) {
+        None => 0,
+        Some(last) => spans[last].place + spans[last].words,
+    };
+    Gap {
+        next: number,
+        place,
+    }
 }
 
 // The number of the block that starts at a place.

@@ -15,7 +15,10 @@ invariant_of-self c =
       subst (λ l. AreNarrow c.self.inside.least 0 gap.next l gap.place) (sym c.remove.ensures.items)
           (narrow_remove c.self.inside.least spans 0 gap.next c.in-Some.number gap.place
           c.before-self-inside.ensures.within
-          (c.before-self-inside.ensures.narrow c.self.inside.least spans c.self.invariant.2)),
+          (subst (λ l. AreNarrow c.self.inside.least 0 gap.next l gap.place) c.as_slice-2.ensures.value
+          (c.before-self-inside.ensures.narrow c.self.inside.least
+          (subst (λ l. AreNarrow c.self.inside.least 0 c.self.inside.searched.next l c.self.inside.searched.place)
+          (sym c.as_slice-2.ensures.value) c.self.invariant.2)))),
     )
 
 pub returns-clause-spans : goal.returns-clause-spans
