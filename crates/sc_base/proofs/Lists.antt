@@ -6,6 +6,7 @@ use Rattle.sc_base.proofs.Common.{ltb, map, nat_lt, not, position, position_or_l
 use Rattle.sc_base.proofs.Common.{take, take_more, true, zero, ℕ, ⊎_elim, ◌++◌, ◌+◌, ◌<◌, ◌∙◌, ◌∷◌, ◌≡◌, ◌≤◌}
 pub use Rattle.std.specs.List.{AllByRecursion as Each}
 use Rattle.std.specs.Option.{option_map}
+use Rattle.std.proofs.lemmas.List.Quantifiers.{position-Some}
 use Rattle.std.proofs.lemmas.List.Sums.{passes_at_first, fails_before_first}
 use Rattle.std.proofs.lemmas.Option.{get_or_from_slice_get, slice_get-get_or, slice_get_within}
 
@@ -30,6 +31,11 @@ pub get_prefix : {A : Type 0} (xs ys : List A) (i : ℕ) → i < length xs → s
 get_prefix [] ys i h = absurd (omega arith)
 get_prefix (x ∷ xs) ys zero h = refl
 get_prefix (x ∷ xs) ys (suc i) h = get_prefix xs ys i (omega arith)
+
+-- the first that passes is one of the list
+pub position_within : {A : Type 0} (test : A → Bool) (xs : List A) (i : ℕ) → position test xs ≡ Some i → i < length xs
+position_within test [] i is = cc is
+position_within test (x ∷ xs) i is = (position-Some test (x ∷ xs) i x is).0
 
 -- what holds of all holds at each place, and what holds at each place holds of all
 pub all_at : {A : Type 0} (P : A → Type 0) (xs : List A) (i : ℕ) (x : A) → All P xs → slice_get xs i ≡ Some x → P x

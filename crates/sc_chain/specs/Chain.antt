@@ -72,6 +72,7 @@ pub record IsExplained (source : SourceParts) (inputs : List ℕ) (steps events 
   pub trace : explanation.trace ≡ (machine image inputs steps events).state.trace
   pub stop : explanation.stop ≡ (machine image inputs steps events).stop
   pub chain : IsChain source inputs steps explanation.trace explanation.links
-  -- where the program's text isn't too long to be compiled, no text in which compartments perform is too long to be read
+  -- where the program's text isn't too long to be compiled, no text in which compartments perform is too long to be
+  -- read
   pub short : length source.bytes ≤ most_compiled → (set : ℕ → Bool) →
       length (recomposed source explanation.trace set) ≤ most_text

@@ -1,7 +1,8 @@
 -- Each compartment of a program's image is the part of its own section.
 use Rattle.sc_compile.proofs.Common.{CodeTree, ImageParts, Interface, Interfaces, List, None, Option, ProgramTree}
 use Rattle.sc_compile.proofs.Common.{Some, TypedSection, all_codes, ap, ap₂, built_image, codes_at, comp_at, first_at}
-use Rattle.sc_compile.proofs.Common.{function_code, functions_or_none, lowered_program, lowered_section, map, option_map}
+use Rattle.sc_compile.proofs.Common.{function_code, functions_or_none, lowered_program, lowered_section, map}
+use Rattle.sc_compile.proofs.Common.{option_map}
 use Rattle.sc_compile.proofs.Common.{part_at, refl, section_at, section_or_none, slice_get, sym, too_large, ℕ, ◌∙◌, ◌≡◌}
 use Rattle.std.specs.Prelude.{Ok}
 use Rattle.sc_image.specs.declared.parts.CompPart.{CompPart}

@@ -18,7 +18,8 @@ pub use Rattle.sc_core.specs.Meaning.{meaning_by, member_zeros, place_named, pla
 pub use Rattle.sc_core.specs.Meaning.{run_to, scripted_by, scripted_depth_by, scripted_meaning, scripted_run_of}
 pub use Rattle.sc_core.specs.Meaning.{scripted_wrapped, starred_zeros, struct_zeros, with_words, wrapped, wrapped_depth}
 pub use Rattle.sc_core.specs.Meaning.{zeros_of}
-pub use Rattle.sc_core.specs.Memory.{Block, Blocks, Memory, allocated_at, bind, cell_of, cells_at, ended, freed, is_live}
+pub use Rattle.sc_core.specs.Memory.{Block, Blocks, Memory, allocated_at, bind, cell_of, cells_at, ended, freed}
+pub use Rattle.sc_core.specs.Memory.{is_live}
 pub use Rattle.sc_core.specs.Memory.{live_cells, living, load, loaded, over, span_at, spans_of, store, variable}
 pub use Rattle.sc_core.specs.Memory.{with_block, with_blocks, with_cell, without_block}
 pub use Rattle.sc_core.specs.Run.{reaches, stopped_at}

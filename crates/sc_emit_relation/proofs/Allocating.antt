@@ -11,7 +11,7 @@ use Rattle.sc_emit_relation.proofs.Common.{zone_start, ⊎_elim, ◌&&◌, ◌*�
 use Rattle.sc_emit_relation.proofs.Common.{◌⊎◌}
 use Rattle.std.specs.Prelude.{slice_index_or}
 use Rattle.std.proofs.Common.{get_or-set_other, get_or-set_same}
-use Rattle.sc_core.specs.Prelude.{Here, Memory, allocated, allocated_at, and_then, elements_allocated, placed, spans_of}
+use Rattle.sc_core.specs.Prelude.{Here, Memory, allocated, allocated_at, placed, spans_of}
 use Rattle.sc_core.specs.declared.expr.CallTarget.TheVariants.{Input}
 use Rattle.sc_core.specs.declared.value.Cell.TheVariants as cell
 use Rattle.rv_code.specs.Registers.{a1}
@@ -30,9 +30,6 @@ use Rattle.sc_emit_relation.proofs.Frames.{get_back}
 use Rattle.sc_emit_relation.proofs.Laying.{IsTaken, is_taken, missed, span_of}
 use Rattle.sc_emit_relation.proofs.Opening.{more_cell, no_cell}
 use Rattle.sc_emit_relation.proofs.Settling.{leads_rezoned, settled_rezoned}
-use Rattle.sc_emit_relation.proofs.Stretches.{emits_here}
-use Rattle.sc_emit_relation.specs.Prelude.{CallGives}
-use Rattle.sc_core.specs.declared.value.Value.TheVariants.{Word}
 use Rattle.sc_emit_relation.proofs.Spans.{length_blank, misses_lying, spans_allocated}
 
 -- a word of the zone of a compartment with a heap is its data
@@ -419,20 +416,3 @@ module _ (T : Setting) (formed : IsWellFormed T.image) (inputs : All IsWord T.in
   -- the environment call that allocates `count` times `words` words
   pub alloc_comes : IsAllocated T P x here many
   alloc_comes = allocated_by (least_free zone many) refl
-
-module _ (T : Setting) (formed : IsWellFormed T.image) (inputs : All IsWord T.inputs) (P : Standpoint) (x : Joint)
-    (settled : Settled T P x) (honest : T.performs P.comp ≡ false) (low : P.floor P.comp ≤ stack_top P.comp)
-    (heap : has_heap T.image P.comp ≡ true) (asks : Fetches T.image P.comp x.pc Ecall) (words numbered line : ℕ)
-    (asked : x.regs a7 ≡ 3) (words_is : x.regs a1 ≡ words) where
-  abbrev in_call : Here
-  in_call = record { comp = P.comp; first = numbered }
-
-  -- the same, where a0 stands for the number of elements, which is blamed where it is none
-  pub alloc_gives : (v : Value) → StandsFor (x.inj P.comp) (x.regs a0) v → CallGives T P x Input
-      (and_then (elements_allocated in_call v words line x.meant) (λ q s. Reached (Some q) s))
-  alloc_gives (Word count) stands =
-      let r : IsAllocated T P x in_call (count * words) =
-      alloc_comes T formed inputs P x settled honest low heap asks count words asked stands.means words_is numbered in
-      subst (λ piece. CallGives T P x Input (and_then piece (λ q s. Reached (Some q) s))) (sym r.gives) r.comes
-  alloc_gives Null stands = emits_here T P x 1
-  alloc_gives (Ptr p) stands = emits_here T P x 1

@@ -2,7 +2,7 @@
 -- address.
 use Rattle.sc_emit_relation.proofs.Common.{All, Block, Blocks, BlocksMatch, Bool, ByteMemory as Bytes, Cause, Cell}
 use Rattle.sc_emit_relation.proofs.Common.{ComesBack, Err, ImageParts, Injection, IsWellFormed, IsWord, Joint, LiesAt}
-use Rattle.sc_emit_relation.proofs.Common.{List, LiveAt, None, Null, Ok, Option, Pointer, Ptr, Reached, Result, Setting}
+use Rattle.sc_emit_relation.proofs.Common.{List, LiveAt, None, Null, Ok, Option, Pointer, Ptr, Result, Setting}
 use Rattle.sc_emit_relation.proofs.Common.{Settled, Some, Standpoint, StandsFor, Value, Walks, Word, ZoneMatches, ℕ, []}
 use Rattle.sc_emit_relation.proofs.Common.{a0, a7, ap, arith, cases_eq, eq-eqb, eqb-true, false, if◌then◌else◌, inl}
 use Rattle.sc_emit_relation.proofs.Common.{is_some, length, length-set, machine, ne_eqb, refl, same_Some, slice_get}
@@ -11,7 +11,7 @@ use Rattle.sc_emit_relation.proofs.Common.{with_memory, world_at, zero, ⊎_elim
 use Rattle.sc_emit_relation.proofs.Common.{◌≢◌}
 use Rattle.std.specs.Prelude.{slice_index_or}
 use Rattle.std.proofs.Common.{get_or-set_other, get_or-set_same}
-use Rattle.sc_core.specs.Prelude.{Here, Memory, and_then, computed, freed, over, spans_of, without_block}
+use Rattle.sc_core.specs.Prelude.{Memory, freed, over, spans_of, without_block}
 use Rattle.sc_core.specs.declared.cause.Cause.TheVariants.{BadFree}
 use Rattle.sc_core.specs.declared.expr.CallTarget.TheVariants.{Output}
 use Rattle.rv_code.specs.declared.instr.Instr.TheVariants.{Ecall}
@@ -23,8 +23,6 @@ use Rattle.sc_zone.specs.declared.span.Span.{Span}
 use Rattle.sc_emit_relation.proofs.Access.{LivingBlock, alive, living_block}
 use Rattle.sc_emit_relation.proofs.Asking.{free_walks, null_walks}
 use Rattle.sc_emit_relation.proofs.Coming.{came_by}
-use Rattle.sc_emit_relation.proofs.Stretches.{emits_here}
-use Rattle.sc_emit_relation.specs.Prelude.{CallGives}
 use Rattle.sc_emit_relation.proofs.Spans.{Lies, spans_elsewhere, spans_freed, starts_lying, zone_on}
 
 -- Blocks of which some have ended, and nothing else changed.
@@ -232,17 +230,3 @@ module _ (T : Setting) (formed : IsWellFormed T.image) (inputs : All IsWord T.in
       let same : blocks ≡ left = cc gives in
       subst (λ left. ComesBack T P x Output None (with_memory P.comp left x.meant)) same (null_comes stands.means)
   free_comes (Ptr p) left stands gives = pointer_comes left p stands (freed_found blocks left p gives)
-
-  abbrev in_call : (numbered : ℕ) → Here
-  in_call numbered = record { comp = P.comp; first = numbered }
-
-  -- the same, or blame
-  pub free_gives : (numbered line : ℕ) (v : Value) → StandsFor (x.inj P.comp) (x.regs a0) v → CallGives T P x Output
-      (and_then (computed (in_call numbered) line (freed blocks v) x.meant)
-      (λ left s. Reached None (with_memory P.comp left s)))
-  free_gives numbered line v stands = by (freed blocks v) refl where
-    by : (result : Result Blocks Cause) → freed blocks v ≡ result → CallGives T P x Output
-        (and_then (computed (in_call numbered) line result x.meant)
-        (λ left s. Reached None (with_memory P.comp left s)))
-    by (Ok left) gives = free_comes v left stands gives
-    by (Err cause) gives = emits_here T P x 1

@@ -1,6 +1,6 @@
 -- Where a compartment's data lie, memory at the start, and the bytes that a memory holds.
 use Rattle.sc_image.proofs.Common.{Bool, ByteMemory, CompPart, HoldsBytes, ImageParts, IsByte, IsWellFormed, List}
-use Rattle.sc_image.proofs.Common.{Misaligned, None, Option, Owner, Some, [], and_from, and_parts, ap, ap₂, are_data}
+use Rattle.sc_image.proofs.Common.{Misaligned, None, Option, Owner, Some, [], and_parts, ap, ap₂, are_data}
 use Rattle.sc_image.proofs.Common.{arith, byte_at, byte_of, cases_lt, comp_of_data, data_end, data_regions, data_start}
 use Rattle.sc_image.proofs.Common.{data_with, false, get_or_from_slice_get, has_heap, if◌then◌else◌, initial_globals}
 use Rattle.sc_image.proofs.Common.{is_in, le-ltb, leb-true, length, list_any, lt-leb, lt-ltb, ltb-true, map}
@@ -31,14 +31,7 @@ pub one_is : (image : ImageParts) (c a : ℕ) → are_data image c a 1 ≡ owns 
 unfolding are_data
 one_is image c a = let here : a + 0 ≡ a = omega arith in ap (owns image c) here
 
--- the bytes of an access decide for it
-pub all_of : (image : ImageParts) (c a size : ℕ) → ((k : ℕ) → k < size → are_data image c (a + k) 1 ≡ true) →
-    are_data image c a size ≡ true
-unfolding are_data
-all_of image c a zero each = refl
-all_of image c a (suc size) each = and_from _ _ (all_of image c a size (λ k below. each k (omega (arith, below))))
-    (sym (one_is image c (a + size)) ∙ each size (omega arith))
-
+-- an access is the compartment's where each of its bytes is
 pub one_of : (image : ImageParts) (c a size k : ℕ) → are_data image c a size ≡ true → k < size →
     are_data image c (a + k) 1 ≡ true
 unfolding are_data
@@ -74,16 +67,6 @@ data_bounds image c a size formed some all =
     let first = byte_bounds image c _ formed (one_of image c a size 0 all some) in
     let last = byte_bounds image c _ formed (one_of image c a size (size - 1) all (omega (arith, some))) in
     (omega (arith, first.0), omega (arith, last.1, some))
-
-in_range : (low top a : ℕ) (other : Bool) → low ≤ a → a < top → (nat_le low a && nat_lt a top || other) ≡ true
-in_range low top a other from below = grind (arith, nat_tests)
-
--- the stack and the globals are in one piece
-pub within_data : (image : ImageParts) (c a size : ℕ) → data_start c ≤ a →
-    a + size ≤ stack_top c + length (initial_globals image c) → are_data image c a size ≡ true
-within_data image c a size low high = all_of image c a size (λ k below. one_is image c (a + k) ∙
-    owns_is image c (a + k) ∙
-    in_range _ _ (a + k) _ (omega (arith, low)) (omega (arith, high, below)))
 
 -- the first byte of a zone is the compartment's exactly where it has one
 zone_by : (low top zone size : ℕ) (heap : Bool) → top ≤ zone → 0 < size →

@@ -7,10 +7,11 @@ use Rattle.sc_image.proofs.Common.{export_params, exported_by, false, given_back
 use Rattle.sc_image.proofs.Common.{image_import, image_interface, image_interfaces, image_proto, inl, inr, is_end}
 use Rattle.sc_image.proofs.Common.{is_ended, is_there, length, length-append, length-map, length-replicate, list_any}
 use Rattle.sc_image.proofs.Common.{list_any-append, machine, map, may_call_export, may_input, may_output, on_return}
-use Rattle.sc_image.proofs.Common.{option_and_then, option_map, option_map_or, or_right, position, position-Some, refl}
+use Rattle.sc_image.proofs.Common.{option_and_then, option_map, option_map_or, or_right, refl}
 use Rattle.sc_image.proofs.Common.{reg, run, slice_get, slice_get-map, start, step, stopped, subst, sym, true}
 use Rattle.sc_image.proofs.Common.{true≢false, word_interface, word_interfaces, word_proto, ℕ, ◌&&◌, ◌++◌, ◌-◌, ◌<◌}
 use Rattle.sc_image.proofs.Common.{◌==◌, ◌||◌, ◌∙◌, ◌∷◌, ◌≡◌, ◌⊎◌}
+use Rattle.sc_base.proofs.Lists.{position_within}
 use Rattle.sc_event.specs.Prelude.{Activation, Standing, at_start, awaits, comp_at, export_at, fits_result, imports}
 use Rattle.sc_event.specs.Prelude.{is_allowed, is_function, is_input, is_legal_from, is_output, may_perform, may_return}
 use Rattle.sc_event.specs.Prelude.{performer, resumed, stands_after, stands_after_all, takes}
@@ -21,7 +22,7 @@ use Rattle.sc_event.specs.declared.interface.Import.TheVariants.{Input, Output}
 use Rattle.sc_event.specs.Lookup as lookup
 use Rattle.sc_event.specs.Legal as law
 use Rattle.sc_image.proofs.Cases.{AtNext, step_of}
-use Rattle.sc_image.proofs.Words.{comp_found, no_export}
+use Rattle.sc_image.proofs.Words.{comp_found}
 use Rattle.sc_image.proofs.Running.{run_keeps}
 use Rattle.sc_image.proofs.Enters.{few_params, length-arguments}
 use Rattle.sc_image.proofs.Reached.{steady_start, steady_step}
@@ -164,10 +165,6 @@ record IsOver (image : ImageParts) (state : MachineState) : Type 0 where
 
 abbrev IsEmitted : ImageParts → MachineState → Type 0
 IsEmitted image state = IsTraced image state ⊎ IsOver image state
-
-position_within : (test : ExportPart → Bool) (exports : List ExportPart) (index : ℕ) →
-    position test exports ≡ Some index → index < length exports
-position_within test exports index is = (position-Some test exports index no_export is).0
 
 module _ (image : ImageParts) (inputs : List ℕ) (formed : IsWellFormed image) (all : All IsWord inputs) (state :
     MachineState)

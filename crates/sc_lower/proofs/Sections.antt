@@ -1,6 +1,7 @@
 -- The code of a well-typed program keeps the rules of programs.
 use Rattle.sc_lower.proofs.Common.{Bool, Callable, Interface, Interfaces, Judged, List, None, Option}
-use Rattle.sc_lower.proofs.Common.{ProgramTree, Proto, Scalar, Scope, Signature, Some, TacSection, TacStmt-F, Ty, TypedExpr}
+use Rattle.sc_lower.proofs.Common.{ProgramTree, Proto, Scalar, Scope, Signature, Some, TacSection, TacStmt-F, Ty}
+use Rattle.sc_lower.proofs.Common.{TypedExpr}
 use Rattle.sc_lower.proofs.Common.{TypedFunction, TypedLocal, TypedParam, TypedSection, TypedStruct, [], all_go_into}
 use Rattle.sc_lower.proofs.Common.{allowed, and_first, and_from, and_rest, any_along, ap, calls_exports, calls_imports}
 use Rattle.sc_lower.proofs.Common.{calls_own, cells_of, cross_call_fits, decayed, eq-eqb, export_at, false, false≢true}

@@ -4,7 +4,8 @@ pub use Rattle.sc_core.specs.Prelude.{local_nodes, main_name, most_cells, most_e
 pub use Rattle.sc_core.specs.Prelude.{part_nodes, simple_nodes, stmt_nodes, total, variables}
 pub use Rattle.sc_lower.specs.Beyond.{beyond, call_beyond, expr_beyond, init_beyond, kind_beyond, local_beyond}
 pub use Rattle.sc_lower.specs.Beyond.{part_beyond, simple_beyond, stmt_beyond, term_beyond, variable_beyond}
-pub use Rattle.sc_lower.specs.Branches.{HasBranches, KeepsBranches, branches, call_branches, expr_branches, ifs, ifs_step}
+pub use Rattle.sc_lower.specs.Branches.{HasBranches, KeepsBranches, branches, call_branches, expr_branches, ifs}
+pub use Rattle.sc_lower.specs.Branches.{ifs_step}
 pub use Rattle.sc_lower.specs.Branches.{init_branches, kind_branches, local_branches, op_branches, part_branches}
 pub use Rattle.sc_lower.specs.Branches.{simple_branches, stmt_branches, stmt_ifs, term_branches}
 pub use Rattle.sc_lower.specs.Expressions.{Forms, Low, Lowered, Lows, and_code, at_place, between_op, binary}

@@ -6,7 +6,6 @@ use Rattle.sc_machine.proofs.Common.{slice_set, subst, suc, sym, true, unwrap_or
 use Rattle.sc_machine.proofs.Common.{◌-◌, ◌<◌, ◌==◌, ◌∙◌, ◌∷◌, ◌≡◌, ◌≢◌, ◌≤◌}
 use Rattle.sc_base.specs.declared.stop.TrapReason.TheVariants.{BadFree}
 use Rattle.sc_image.specs.Prelude.{frees, starts_block, zone_of}
-use Rattle.std.proofs.lemmas.Bool.Decides.{nat_tests}
 use Rattle.std.specs.Option.{option_map_or}
 use Rattle.std.proofs.Common.{IfSome, if◌then◌else◌, ◌||◌}
 use Rattle.std.proofs.lemmas.List.{map-set}
@@ -99,15 +98,6 @@ zone_there image c k there are at has = ap₂ (λ (tests : List Bool) (n : ℕ).
     heap_at image.comps c ∙ has
 
 -- The block at an address.
-
-same_place : (from p q : ℕ) → (from + 4 * p == from + 4 * q) ≡ (p == q)
-same_place from p q = grind (arith, nat_tests)
-
-starts_there : (c place : ℕ) (spans : List Span) →
-    starts_block c spans (zone_start c + 4 * place) ≡ starts_at spans place
-starts_there c place [] = refl
-starts_there c place (span ∷ spans) =
-    ap₂ (λ (x y : Bool). x || y) (same_place (zone_start c) span.place place) (starts_there c place spans)
 
 starts_nowhere : (c address : ℕ) (spans : List Span) → ((place : ℕ) → zone_start c + 4 * place ≢ address) →
     starts_block c spans address ≡ false

@@ -109,10 +109,6 @@ pub regions_below : (comps : List CompPart) → length comps ≤ 32 → All HasF
     AreBelow (regions_of (all_data 0 comps))
 regions_below comps count few = below_from comps 0 (omega (arith, count)) few
 
-pub tops_length : (comps : List CompPart) (c : ℕ) → length (stack_tops c comps) ≡ length comps
-tops_length [] c = refl
-tops_length (comp ∷ comps) c = ap suc (tops_length comps (suc c))
-
 -- one stack more
 pub tops_more : (comps : List CompPart) (c i n : ℕ) → n ≡ c + i → i < length comps →
     stack_tops c (take (suc i) comps) ≡ stack_tops c (take i comps) ++ stack_top n ∷ []

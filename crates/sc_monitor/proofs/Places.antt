@@ -1,14 +1,12 @@
 -- The rule that an event takes is found among the places of its state's rules.
-use Rattle.sc_monitor.proofs.Common.{Bool, Event, Interfaces, List, None, Option, Rule, Some, [], ap, arith, cond, false}
+use Rattle.sc_monitor.proofs.Common.{Bool, Event, Interfaces, List, None, Option, Rule, Some, [], ap, arith, cond}
+use Rattle.sc_monitor.proofs.Common.{false}
 use Rattle.sc_monitor.proofs.Common.{find, if◌then◌else◌, length, matches, matches_at, option_map, option_map_or}
-use Rattle.sc_monitor.proofs.Common.{places_from, places_of, position, position-Some, position-cons, refl, rule_for, slice_get, slice_index}
+use Rattle.sc_monitor.proofs.Common.{places_from, places_of, position, position-cons, refl, rule_for}
+use Rattle.sc_monitor.proofs.Common.{slice_get, slice_index}
 use Rattle.sc_monitor.proofs.Common.{suc}
+use Rattle.sc_base.proofs.Lists.{position_within}
 use Rattle.sc_monitor.proofs.Common.{sym, true, zero-add, ℕ, ◌&&◌, ◌+◌, ◌<◌, ◌==◌, ◌∙◌, ◌∷◌, ◌≡◌}
-
-position_within : (test : Rule → Bool) (rules : List Rule) (place : ℕ) → position test rules ≡ Some place →
-    place < length rules
-position_within test [] place is = cc is
-position_within test (rule ∷ rules) place is = (position-Some test (rule ∷ rules) place rule is).0
 
 module _ (rules : List Rule) (interfaces : Interfaces) (event : Event) (state : ℕ) where
   abbrev hits : Option Rule → Bool

@@ -1,8 +1,11 @@
 -- A verdict goes over the events one by one: what a violation is, and when there is none.
 use Rattle.sc_monitor.proofs.Common.{Bool, Breaks, Event, Explanation, Goes, Holds, Interfaces, IsViolation, Link, List}
-use Rattle.sc_monitor.proofs.Common.{Move, NamesNoEvent, None, Option, Policy, Rule, Some, Verdict, Violated, [], after_move}
-use Rattle.sc_monitor.proofs.Common.{ap, arith, by_goal, by_rule, cond, false, goal_of, is_compromised, matches, move_at}
-use Rattle.sc_monitor.proofs.Common.{option_map, performer, position, position-cons, refl, rule_for, slice_get, suc, sym}
+use Rattle.sc_monitor.proofs.Common.{Move, NamesNoEvent, None, Option, Policy, Rule, Some, Verdict, Violated, []}
+use Rattle.sc_monitor.proofs.Common.{after_move}
+use Rattle.sc_monitor.proofs.Common.{ap, arith, by_goal, by_rule, cond, false, goal_of, is_compromised, matches}
+use Rattle.sc_monitor.proofs.Common.{move_at}
+use Rattle.sc_monitor.proofs.Common.{option_map, performer, position, position-cons, refl, rule_for, slice_get, suc}
+use Rattle.sc_monitor.proofs.Common.{sym}
 use Rattle.sc_monitor.proofs.Common.{take, true, verdict, verdict_from, zero, ℕ, ◌&&◌, ◌+◌, ◌==◌, ◌∙◌, ◌∷◌, ◌≡◌}
 
 -- what an event breaks is the rule that it takes, which has no goal

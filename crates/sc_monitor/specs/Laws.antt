@@ -14,7 +14,8 @@ pub record NamesNoEvent (rules : List Rule) (interfaces : Interfaces) (trace : L
   pub at : (place k : ℕ) (rule : Rule) (event : Event) → slice_get rules place ≡ Some rule →
       slice_get trace k ≡ Some event → matches interfaces rule.pattern event ≡ false
 
--- the event that follows the first `after` ones is a violation: its compartment commits it, the events before it lead to
+-- the event that follows the first `after` ones is a violation: its compartment commits it, the events before it lead
+-- to
 -- a state without one, and the rule that it takes there is the one of this number and has no goal
 pub record IsViolation (rules : List Rule) (interfaces : Interfaces) (links : List Link) (trace : List Event)
     (after comp rule : ℕ) : Type 0 where

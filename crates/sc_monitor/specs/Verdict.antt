@@ -1,8 +1,8 @@
 -- What a policy says of a trace: its automaton goes over the events, up to the first violation.
-use Rattle.std.specs.Prelude.{ℕ, ◌+◌, Bool, false, ◌&&◌, ◌==◌, nat_le, List, [], ◌∷◌, position, slice_get, Option, Some, None}
+use Rattle.std.specs.Prelude.{ℕ, ◌+◌, Bool, ◌&&◌, ◌==◌, nat_le, List, [], ◌∷◌, position, slice_get, Option}
+use Rattle.std.specs.Prelude.{Some, None}
 use Rattle.std.specs.Prelude.{option_and_then}
 use Rattle.std.specs.List.{list_any}
-use Rattle.std.specs.Option.{option_map_or}
 use Rattle.sc_event.specs.Prelude.{performer}
 use Rattle.sc_event.specs.declared.event.Event.{Event}
 use Rattle.sc_event.specs.declared.interface.Interfaces.{Interfaces}
@@ -20,11 +20,6 @@ use Rattle.sc_monitor.specs.declared.verdict.Verdict.TheVariants.{Holds, Violate
 abbrev pub rule_for : List Rule → Interfaces → (state : ℕ) → Event → Option ℕ
 rule_for rules interfaces state event =
     position (λ rule. rule.state == state && matches interfaces rule.pattern event) rules
-
--- an event matches the pattern of the rule at a place
-abbrev pub matches_at : List Rule → Interfaces → Event → (place : ℕ) → Bool
-matches_at rules interfaces event place =
-    option_map_or (λ rule. matches interfaces rule.pattern event) (slice_get rules place) false
 
 -- where the rule at a place leads, if it leads somewhere
 abbrev pub goal_of : List Rule → (place : ℕ) → Option ℕ

@@ -1,6 +1,7 @@
 //! The automaton of a policy on the events of a trace.
 
-ghost use Rattle.sc_monitor.specs.Verdict.{goal_of, is_compromised, matches_at, move_at, rule_for, verdict};
+ghost use Rattle.sc_monitor.specs.Places.{matches_at};
+ghost use Rattle.sc_monitor.specs.Verdict.{goal_of, is_compromised, move_at, rule_for, verdict};
 ghost use Rattle.std.specs.Prelude.{◌≡◌, ◌<◌, ◌^◌, length, position, IfSome};
 
 use crate::Verdict;
@@ -17,7 +18,8 @@ enum Move {
     Breaks(u32),
 }
 
-/// The first violation of the policy in the trace, or the state in which the policy stands after the trace. An event takes
+/// The first violation of the policy in the trace, or the state in which the policy stands after the trace. An event
+/// takes
 /// the first rule of the present state whose pattern it matches.
 pub fn judge(policy: &Policy, interfaces: &Interfaces, explanation: &Explanation) -> Verdict
     requires { length explanation.now.trace < 2 ^ 32 }

@@ -7,8 +7,10 @@ pub enum Verdict {
     Holds {
         state: u16,
     },
-    /// The event that follows the first `after` events is the first violation. The compartment `comp` performs it, by the
-    /// rule of this number, counted from 1. It was compromised where it had been replaced by then, and else it is clean.
+    /// The event that follows the first `after` events is the first violation. The compartment `comp` performs it, by
+    /// the
+    /// rule of this number, counted from 1. It was compromised where it had been replaced by then, and else it is
+    /// clean.
     Violated {
         after: u32,
         comp: CompId,

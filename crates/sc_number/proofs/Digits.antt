@@ -1,5 +1,6 @@
 -- Digits are read one by one.
-use Rattle.std.proofs.Common.{Bool, List, None, Option, Some, [], ap, arith, cond, false, le-leb, length, lt-ltb, nat_le}
+use Rattle.std.proofs.Common.{Bool, List, None, Option, Some, [], ap, arith, cond, false, le-leb, length, lt-ltb}
+use Rattle.std.proofs.Common.{nat_le}
 use Rattle.std.proofs.Common.{nat_lt, option_and_then, refl, true, ℕ, ◌&&◌, ◌*◌, ◌+◌, ◌-◌, ◌<◌, ◌∙◌, ◌∷◌, ◌≡◌, ◌≤◌}
 use Rattle.std.proofs.lemmas.Bool.{and_parts, lt-leb}
 use Rattle.std.proofs.lemmas.Str.{digit_value_digit}

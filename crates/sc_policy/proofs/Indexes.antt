@@ -1,7 +1,10 @@
 -- The index of the rules of each state, as rules are added.
-use Rattle.sc_policy.proofs.Common.{Bool, IsIndex, IsTrue, List, Rule, [], ap, arith, eqb-false, eqb-true, false, get_or-set_other}
-use Rattle.sc_policy.proofs.Common.{get_or-set_same, if◌then◌else◌, length, length-append, most_rules, places_from, places_of, refl}
-use Rattle.sc_policy.proofs.Common.{slice_index_or, slice_set, subst, suc, sym, true, with_place, zero, zero-add, ℕ, ◌++◌}
+use Rattle.sc_policy.proofs.Common.{Bool, IsIndex, IsTrue, List, Rule, [], ap, arith, eqb-false, eqb-true, false}
+use Rattle.sc_policy.proofs.Common.{get_or-set_other}
+use Rattle.sc_policy.proofs.Common.{get_or-set_same, if◌then◌else◌, length, length-append, most_rules, places_from}
+use Rattle.sc_policy.proofs.Common.{places_of, refl}
+use Rattle.sc_policy.proofs.Common.{slice_index_or, slice_set, subst, suc, sym, true, with_place, zero, zero-add, ℕ}
+use Rattle.sc_policy.proofs.Common.{◌++◌}
 use Rattle.sc_policy.proofs.Common.{◌+◌, ◌<◌, ◌==◌, ◌∙◌, ◌∷◌, ◌≡◌, ◌≢◌, ◌≤◌, ◌↔◌}
 
 -- an empty list more says as much

@@ -1,5 +1,5 @@
 -- Lists of words that are cut in two, and those that are too short or too long.
-use Rattle.sc_policy.proofs.Common.{List, None, Option, Text, [], ap, arith, drop, goal_of, goal_part, length, map}
+use Rattle.sc_policy.proofs.Common.{List, None, Text, [], ap, arith, drop, goal_part, length, map}
 use Rattle.sc_policy.proofs.Common.{maybe_arg_of, maybe_test_of, min, pattern_count, pattern_part, refl, suc, sym, take}
 use Rattle.sc_policy.proofs.Common.{zero, ℕ, ◌<◌, ◌∙◌, ◌∷◌, ◌≡◌, ◌≤◌}
 
@@ -63,15 +63,5 @@ module _ {A : Type 0} (f : A → Text) where
   long_arg (a ∷ b ∷ c ∷ []) many = absurd (omega arith)
   long_arg (a ∷ b ∷ c ∷ d ∷ []) many = absurd (omega arith)
   long_arg (a ∷ b ∷ c ∷ d ∷ e ∷ xs) many = refl
-
-  pub no_goal : (states : List Text) (xs : List A) → length xs < 1 → None ≡ goal_of states (map f xs)
-  no_goal states [] few = refl
-  no_goal states (a ∷ xs) few = absurd (omega arith)
-
-  pub long_goal : (states : List Text) (xs : List A) → 3 ≤ length xs → None ≡ goal_of states (map f xs)
-  long_goal states [] many = absurd (omega arith)
-  long_goal states (a ∷ []) many = absurd (omega arith)
-  long_goal states (a ∷ b ∷ []) many = absurd (omega arith)
-  long_goal states (a ∷ b ∷ c ∷ xs) many = refl
 
 pub ruleset parts = (pattern_is, goal_is)

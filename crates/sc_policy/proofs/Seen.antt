@@ -43,17 +43,6 @@ pub next_is : (text : List ℕ) (at end : ℕ) → (at ≤ end) × (end < length
 next_is text at end within newline line =
     record { from = within.0; within = within.1; newline = newline; line = line }
 
-pub nothing_seen : (text : List ℕ) → IsSeen text 0 Start 1
-nothing_seen text = record {
-  seen = [];
-  lines = refl;
-  prefix = refl;
-  read = refl;
-  unclosed = tt;
-  within = omega arith;
-  counted = omega arith;
-}
-
 -- ---- bytes
 
 take_sum : (n k m : ℕ) (xs : List ℕ) → m ≡ n + k → take m xs ≡ take n xs ++ take k (drop n xs)

@@ -50,7 +50,8 @@ pub record IsBadAt (lines : List Text) (line : ℕ) : Type 0 where
   pub before : BeginsPolicy (take (line - 1) lines)
   pub at : (BeginsPolicy (take line lines) → ⊥) ⊎ (line ≡ suc (length lines))
 
--- the line of this number is the first with which the bytes begin no policy; all lines after 4294967295 have that number
+-- the line of this number is the first with which the bytes begin no policy; all lines after 4294967295 have that
+-- number
 pub record HasBadLine (bytes : List ℕ) (line : ℕ) : Type 0 where
   pub first : ℕ
   pub bad : IsBadAt (lines_of bytes) first

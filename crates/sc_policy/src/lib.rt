@@ -1,4 +1,5 @@
-//! Policies over traces: small automata whose rules say which events lead from state to state, and which are violations.
+//! Policies over traces: small automata whose rules say which events lead from state to state, and which are
+//! violations.
 #![tactic(auto)]
 
 mod fault;

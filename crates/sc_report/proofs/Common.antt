@@ -1,6 +1,7 @@
 -- The names that several proofs of this crate cite, passed on from one place. Declares nothing.
 pub use Rattle.std.proofs.Common.{Bool, Err, List, Ok, OnOk, Result, [], ap, append-nil, append_assoc, arith, codes}
-pub use Rattle.std.proofs.Common.{cond, decimal, eq-eqb, false, filter, flat_map, get_or, length, map, nat_eq, ne_eqb, suc, sym}
+pub use Rattle.std.proofs.Common.{cond, decimal, eq-eqb, false, filter, flat_map, get_or, length, map, nat_eq, ne_eqb}
+pub use Rattle.std.proofs.Common.{suc, sym}
 pub use Rattle.std.proofs.Common.{take, true, zero, ℕ, ◌%◌, ◌*◌, ◌++◌, ◌+◌, ◌/◌, ◌<◌, ◌∙◌, ◌∷◌, ◌≡◌}
 pub use Rattle.std.proofs.lemmas.List.{flat_map_more, take_more}
 pub use Rattle.sc_event.specs.Prelude.{comp_name, event_line, spaced_names}

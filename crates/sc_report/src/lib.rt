@@ -1,4 +1,5 @@
-//! The texts that list interfaces, report runs, explanations and verdicts, and those of made programs: what the commands
+//! The texts that list interfaces, report runs, explanations and verdicts, and those of made programs: what the
+//! commands
 //! write.
 #![tactic(auto)]
 

@@ -52,6 +52,7 @@ pub use Rattle.sc_top.specs.Prelude.{IsOutput, IsOutputCause, IsSummary, IsTextO
 pub use Rattle.sc_top.specs.Prelude.{IsWhole, IsWithin, IsWithinLimit, Judge, Meaning, Prints, Refuses, Run}
 pub use Rattle.sc_top.specs.Prelude.{SameAnswer, Says, Status, Traffic, Wrote, account, bytes_of, cause_in, comp_of}
 pub use Rattle.sc_top.specs.Prelude.{compiles, intake, judge_text, limit_of, machine_run, machine_text, meaning_asked}
-pub use Rattle.sc_top.specs.Prelude.{of_compile_fault, output, own_text, owner_text, performers, replacement_of, status_by}
+pub use Rattle.sc_top.specs.Prelude.{of_compile_fault, output, own_text, owner_text, performers, replacement_of}
+pub use Rattle.sc_top.specs.Prelude.{status_by}
 pub use Rattle.sc_top.specs.Prelude.{text_after}
 pub use Rattle.sc_top.specs.declared.failure.Failure.{Failure}

@@ -37,7 +37,8 @@ pub fn one_output()
     one_policy();
 }
 
-/// What `compile` writes is good input of `exec`, which writes for it what `run` writes for the text: the same trace and
+/// What `compile` writes is good input of `exec`, which writes for it what `run` writes for the text: the same trace
+/// and
 /// stop, by the same names.
 pub fn compiled_images_run()
     ensures { CompiledImagesRun }

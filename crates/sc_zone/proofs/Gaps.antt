@@ -1,7 +1,9 @@
 -- The first gap that is wide enough begins at the least free place.
 use Rattle.sc_zone.proofs.Common.{AreLaid, AreNarrow, Bool, Gap, IsFound, IsWide, List, None, Option, Some, Span, []}
-use Rattle.sc_zone.proofs.Common.{ap, arith, drop, drop-cons, false, get_or, insert, is_free, le-leb, length, list_all, lt-leb}
-use Rattle.sc_zone.proofs.Common.{leb-false, leb-true, misses, nat_le, refl, remove, subst, suc, sym, true, zero, zone_words, ℕ}
+use Rattle.sc_zone.proofs.Common.{ap, arith, drop, drop-cons, false, get_or, insert, is_free, le-leb, length}
+use Rattle.sc_zone.proofs.Common.{list_all, lt-leb}
+use Rattle.sc_zone.proofs.Common.{leb-false, leb-true, misses, nat_le, refl, remove, subst, suc, sym, true, zero}
+use Rattle.sc_zone.proofs.Common.{zone_words, ℕ}
 use Rattle.sc_zone.proofs.Common.{◌&&◌, ◌+◌, ◌<◌, ◌||◌, ◌∙◌, ◌∷◌, ◌≡◌, ◌≤◌}
 unfoldable use Rattle.sc_zone.proofs.Common.{least_free}
 use Rattle.sc_zone.proofs.Places.{beyond, least_is, least_none}

@@ -1,5 +1,6 @@
 -- What is given back is the one block that starts at its place.
-use Rattle.sc_zone.proofs.Common.{AreLaid, List, Span, [], ap, arith, false, get_or, if◌then◌else◌, length, ne_eqb, refl}
+use Rattle.sc_zone.proofs.Common.{AreLaid, List, Span, [], ap, arith, false, get_or, if◌then◌else◌, length, ne_eqb}
+use Rattle.sc_zone.proofs.Common.{refl}
 use Rattle.sc_zone.proofs.Common.{remove, starts_at, subst, suc, sym, true, without_span, zero, zone_words, Bool, ℕ}
 use Rattle.sc_zone.proofs.Common.{◌+◌, ◌<◌, ◌==◌, ◌||◌, ◌∙◌, ◌∷◌, ◌≡◌, ◌≤◌}
 use Rattle.sc_zone.proofs.Gaps.{laid_at, laid_from}

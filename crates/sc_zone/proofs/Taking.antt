@@ -1,5 +1,6 @@
 -- A block that is taken from a gap lies among the others, in the order of places.
-use Rattle.sc_zone.proofs.Common.{AreLaid, AreNarrow, Gap, IsFound, IsWide, List, Option, Some, Span, [], ap, arith, drop}
+use Rattle.sc_zone.proofs.Common.{AreLaid, AreNarrow, Gap, IsFound, IsWide, List, Option, Some, Span, [], ap, arith}
+use Rattle.sc_zone.proofs.Common.{drop}
 use Rattle.sc_zone.proofs.Common.{if◌then◌else◌, insert, le-ltb, length, lt-ltb, refl, subst, suc, sym, with_span, zero}
 use Rattle.sc_zone.proofs.Common.{zone_words, ℕ, ◌+◌, ◌<◌, ◌∙◌, ◌∷◌, ◌≡◌, ◌≤◌}
 unfoldable use Rattle.sc_zone.proofs.Common.{least_free}
