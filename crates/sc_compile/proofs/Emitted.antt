@@ -61,7 +61,8 @@ module _ (program : ProgramTree) (typed : IsWellTyped program) (named : AreNamed
       SimulatesRun image inputs (turn_pays * suc turns) turns (run_of arith' program inputs turns)
   emits_by arith' inputs turns are agrees =
       outcomes_simulate.along image inputs (turn_pays * suc turns) turns (run_of arith' program inputs turns)
-      (code_run arith' (lowered_program program) inputs turns) ((keeps_meaning program typed).meaning arith' inputs turns)
+      (code_run arith' (lowered_program program) inputs turns)
+      ((keeps_meaning program typed).meaning arith' inputs turns)
       (outcomes_simulate.emits image inputs (turn_pays * suc turns) turns
       (code_run arith' (lowered_program program) inputs turns)
       (code_run wrapping (lowered_program program) inputs turns) linked.formed are agrees

@@ -21,7 +21,8 @@ module _ (image : ImageParts) (inputs : List ℕ) (world : World) (memory : Byte
         Computes image inputs world (moved_by 2 2 (sub_word 0 bytes)) (7 ∷ []) regs memory 2 bottom
     goes_down bottom sum below =
         computes image inputs world (7 ∷ []) bottom
-        (moves_on image inputs world memory regs 2 2 (sub_word 0 bytes) (regs 2) (omega arith) (omega arith) (omega arith)
+        (moves_on image inputs world memory regs 2 2 (sub_word 0 bytes) (regs 2) (omega arith) (omega arith)
+        (omega arith)
         refl (word_of-lt _)) (lowered (regs 2) bytes bottom sum below) (λ q k. k)
 
     at_bottom : (sp bottom : ℕ) → sp ≡ bottom → bottom + bytes ≡ regs 2 → regs 2 < 2 ^ 32 → add_word sp 0 ≡ bottom

@@ -21,7 +21,8 @@ impl Model for Params {
 
     ghost view = { λ params. params.scalars.items };
 
-    ghost invariant = { λ params. (length params.scalars.items ≤ most_params) × (most_params ≤ params.scalars.capacity) };
+    ghost invariant = { λ params. (length params.scalars.items ≤ most_params) ×
+        (most_params ≤ params.scalars.capacity) };
 }
 
 impl Params {

@@ -268,7 +268,8 @@ module _ (image image' : ImageParts) (inputs inputs' : List ℕ) (formed : IsWel
         calls_same = ap (λ o. o.calls) parts
 
         -- these registers and this pc, these bytes and these events, with the compartment still active
-        on : (regs' regs'' : List ℕ) (pc' place place' : ℕ) (more more' : List Event) (bytes : ByteMemory → ByteMemory) →
+        on : (regs' regs'' : List ℕ) (pc' place place' : ℕ) (more more' : List Event)
+            (bytes : ByteMemory → ByteMemory) →
             regs' ≡ regs'' → Adds (drop (length left.trace) more) ≡ Adds (drop (length rest.trace) more') →
             data_of image c (bytes left.memory) ≡ data_of image c (bytes rest.memory) → Follow image c left right
             (Goes (record left { regs = regs'; pc = pc'; memory = bytes left.memory; input = place; trace = more }))

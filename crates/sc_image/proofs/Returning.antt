@@ -322,7 +322,8 @@ return_comes point from to index args steps h emits above closed =
     let last = later steps (later 1 point) in
     let inside = goes_within crossing t.cross due steps (later 1 point) h.formed h.inputs
     (step_steady point.image point.inputs t h.formed h.inputs h.steady) above first in
-    let end = (step_on crossing t.cross due point.image point.inputs h.formed last.state inside.0 inside.1).1 closed in (
+    let end =
+    (step_on crossing t.cross due point.image point.inputs h.formed last.state inside.0 inside.1).1 closed in (
       (end.value, end.emits ∙ ap (λ k. Adds (Ret to k end.value ∷ [])) made.caller),
       record {
         active = end.active ∙ made.caller;

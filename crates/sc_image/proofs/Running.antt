@@ -125,7 +125,8 @@ module _ (image : ImageParts) (inputs : List ℕ) (events : ℕ) (P : MachineSta
     stop_keeps None state later h k = k refl
     stop_keeps (Some stop) state later h k = h
 
-    go_keeps : (state : MachineState) (outcome : Outcome) (go : MachineState → MachineRun) → P state → AtNext P outcome →
+    go_keeps : (state : MachineState) (outcome : Outcome) (go : MachineState → MachineRun) → P state →
+        AtNext P outcome →
         ((next : MachineState) → P next → P (go next).state) → P (after state outcome go).state
     go_keeps state (Goes next) go h k later = later next k
     go_keeps state (Traps reason) go h k later = h

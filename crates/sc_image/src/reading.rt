@@ -88,7 +88,8 @@ fn version_at(bytes: &mut &[u8]) -> Result<u16, ImageFault>
 }
 
 fn count_at(bytes: &mut &[u8]) -> Result<u8, ImageFault>
-    ensures count { Gives (λ x. (x, bytes.new.now)) result (number_that (is_between 1 most_compartments) Count 1 bytes.old.now) }
+    ensures count { Gives (λ x. (x, bytes.new.now)) result
+        (number_that (is_between 1 most_compartments) Count 1 bytes.old.now) }
     ensures within { IfOk result (λ count. count ≤ most_compartments) }
 {
     let count = u8_at(BadImage::Count, bytes)?;

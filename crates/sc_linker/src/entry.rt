@@ -29,7 +29,8 @@ fn entry_jump(layout: &SectionLayout, names: &NameList, index: u16, proto: &Prot
     requires functions { All (IsCodeAddress layout.now.comp) layout.now.functions }
     requires here { IsCodeAddress layout.now.comp (entry_address layout.now.comp index) }
     requires named { IsSome (number_by_name names.now proto.now.name) }
-    requires within { IfSome (number_by_name names.now proto.now.name) (λ number. number < length layout.now.functions) }
+    requires within { IfSome (number_by_name names.now proto.now.name)
+        (λ number. number < length layout.now.functions) }
     ensures { result ≡ Instr.Jal 0 (pos (function_address (addresses_of layout.now)
         (number_by_name names.now proto.now.name)) -ℤ pos (entry_address layout.now.comp index)) }
 {

@@ -66,8 +66,10 @@ pub of_int_mean : BothMean only_main of_int [] 0 20 (record {
       Out 0 0 ∷ Out 0 1 ∷ Out 0 0 ∷ Out 0 1 ∷ Out 0 0 ∷ Out 0 1 ∷ End 0 0 ∷ [];
   end = Ended;
 })
-of_int_mean =
-    (lowered_is c_arith only_main of_int ((of_int_code ∷ []) ∷ []) of_int_emit [] 0 20, by_plan only_main of_int [] 0 20)
+of_int_mean = (
+  lowered_is c_arith only_main of_int ((of_int_code ∷ []) ∷ []) of_int_emit [] 0 20,
+  by_plan only_main of_int [] 0 20,
+)
 
 -- the same of `unsigned int x = 4294967293;`
 abbrev pub of_unsigned : List Sheet
@@ -183,8 +185,10 @@ logic_emit = ((refl, tt), tt)
 
 pub logic_mean : BothMean only_main logic [] 0 10
     (record { trace = Out 0 0 ∷ Out 0 1 ∷ Out 0 0 ∷ Out 0 1 ∷ End 0 0 ∷ []; end = Ended })
-logic_mean =
-    (lowered_is c_arith only_main logic ((logic_code ∷ []) ∷ []) logic_emit [] 0 10, by_plan only_main logic [] 0 10)
+logic_mean = (
+  lowered_is c_arith only_main logic ((logic_code ∷ []) ∷ []) logic_emit [] 0 10,
+  by_plan only_main logic [] 0 10,
+)
 
 -- `output(p o a);` for each operator, where the locals are `int a[3]` and `int *p`
 abbrev pub orders : List BinaryOp → Lines → Lines
@@ -257,5 +261,7 @@ unfolding roll-TacStmt denote.Hole.Carrier.roll
 steps_emit = ((refl, tt), tt)
 
 pub steps_mean : BothMean only_main steps [] 0 10 (record { trace = Out 0 8 ∷ Out 0 1 ∷ End 0 0 ∷ []; end = Ended })
-steps_mean =
-    (lowered_is c_arith only_main steps ((steps_code ∷ []) ∷ []) steps_emit [] 0 10, by_plan only_main steps [] 0 10)
+steps_mean = (
+  lowered_is c_arith only_main steps ((steps_code ∷ []) ∷ []) steps_emit [] 0 10,
+  by_plan only_main steps [] 0 10,
+)

@@ -43,7 +43,8 @@ InitsFit scope k (local ∷ locals) =
     × InitsFit scope (suc k) locals
 
 -- what a call that fits takes and gives, in the code
-pub record FitsCall (temps : ℕ) (scope : Scope) (callable : Callable) (to : CallTarget) (dest : Option ℕ) (at : List ℕ) :
+pub record FitsCall (temps : ℕ) (scope : Scope) (callable : Callable) (to : CallTarget) (dest : Option ℕ)
+    (at : List ℕ) :
     Type 0 where
   pub signature : Signature
   pub is : target_signature callable to ≡ Some signature
@@ -281,7 +282,8 @@ module _ (temps : ℕ) (scope : Scope) (callable : Callable) (result : Option Ty
         let x : Part = p n in let y : Part = q x.next in let z : Part = r y.next in
         all_one test (tac.Loop x.code y.code z.code) (emit.Loop x.code y.code z.code)
         (emit.rolls-Loop x.code y.code z.code)
-        (and_from _ _ (passed (tac.Loop _ _ _) tt) (and_from _ _ (hp.passes n (omega (numbers, le, hq.up x.next, hr.up y.next)))
+        (and_from _ _ (passed (tac.Loop _ _ _) tt) (and_from _ _ (hp.passes n (omega
+        (numbers, le, hq.up x.next, hr.up y.next)))
         (and_from _ _ (hq.passes x.next (omega (numbers, le, hr.up y.next))) (and_from _ true (hr.passes y.next le)
         refl))));
   }

@@ -115,8 +115,10 @@ pub places_mean : BothMean only_main places [] 0 10 (record {
   trace = Out 0 7 ∷ Out 0 5 ∷ Out 0 6 ∷ Out 0 7 ∷ Out 0 4 ∷ Out 0 7 ∷ End 0 6 ∷ [];
   end = Ended;
 })
-places_mean =
-    (lowered_is c_arith only_main places ((places_code ∷ []) ∷ []) places_emit [] 0 10, by_plan only_main places [] 0 10)
+places_mean = (
+  lowered_is c_arith only_main places ((places_code ∷ []) ∷ []) places_emit [] 0 10,
+  by_plan only_main places [] 0 10,
+)
 
 abbrev pub x : Shape
 x = Var int_pointer (Param 1)

@@ -70,8 +70,10 @@ pub signs_mean : BothMean only_main signs [] 0 10 (record {
       3 ∷ [];
   end = Ended;
 })
-signs_mean =
-    (lowered_is c_arith only_main signs ((signs_code ∷ []) ∷ []) signs_emit [] 0 10, by_plan only_main signs [] 0 10)
+signs_mean = (
+  lowered_is c_arith only_main signs ((signs_code ∷ []) ∷ []) signs_emit [] 0 10,
+  by_plan only_main signs [] 0 10,
+)
 
 abbrev pub u : Shape
 u = Var ty.Unsigned (Local 0)
@@ -116,8 +118,10 @@ unfolding roll-TacStmt denote.Hole.Carrier.roll
 choices_emit = ((refl, tt), tt)
 
 pub choices_mean : BothMean only_main choices [] 0 10 (record { trace = Out 0 1 ∷ Out 0 4 ∷ End 0 0 ∷ []; end = Ended })
-choices_mean =
-    (lowered_is c_arith only_main choices ((choices_code ∷ []) ∷ []) choices_emit [] 0 10, by_plan only_main choices [] 0 10)
+choices_mean = (
+  lowered_is c_arith only_main choices ((choices_code ∷ []) ∷ []) choices_emit [] 0 10,
+  by_plan only_main choices [] 0 10,
+)
 
 -- `for (i = 0; i < 4; i = i + 1) { if (i == 2) continue; output(i); } while (1) { ; break; } return i;`
 abbrev pub loops : List Sheet
@@ -205,8 +209,7 @@ pub pointers_mean : BothMean only_main pointers [] 0 10
     (record { trace = Out 0 9 ∷ Out 0 1 ∷ Out 0 1 ∷ Out 0 1 ∷ Out 0 0 ∷ End 0 0 ∷ []; end = Ended })
 pointers_mean = (
   lowered_is c_arith only_main pointers ((pointers_code ∷ []) ∷ []) pointers_emit [] 0 10,
-  by_plan only_main pointers [] 0
-      10,
+  by_plan only_main pointers [] 0 10,
 )
 
 -- `struct s { int m; int n; };`
@@ -254,8 +257,10 @@ unfolding roll-TacStmt denote.Hole.Carrier.roll
 members_emit = ((refl, tt), tt)
 
 pub members_mean : BothMean only_main members [] 0 10 (record { trace = Out 0 3 ∷ Out 0 3 ∷ End 0 0 ∷ []; end = Ended })
-members_mean =
-    (lowered_is c_arith only_main members ((members_code ∷ []) ∷ []) members_emit [] 0 10, by_plan only_main members [] 0 10)
+members_mean = (
+  lowered_is c_arith only_main members ((members_code ∷ []) ∷ []) members_emit [] 0 10,
+  by_plan only_main members [] 0 10,
+)
 
 -- `int f(int a) { return a + a; }`, `void h(void) { return; }`, `int k(int a) { return f(a); }`, and
 -- `int x; x = input(); x = k(x); h(); output(x); return x;`
@@ -339,7 +344,8 @@ pub too_large_is_blamed : code_meaning (lowered_program (program only_main too_l
 }
 too_large_is_blamed = lowered_is c_arith only_main too_large ((too_large_code ∷ []) ∷ []) too_large_emit [] 0 10
 
-pub too_large_was_blamed : meaning (program only_main too_large) [] 0 10 ≡ record { trace = []; end = Blamed 0 Overflow 3 }
+pub too_large_was_blamed : meaning (program only_main too_large) [] 0 10 ≡
+    record { trace = []; end = Blamed 0 Overflow 3 }
 too_large_was_blamed = by_plan only_main too_large [] 0 10
 
 pub too_large_wraps : code_wrapped (lowered_program (program only_main too_large)) [] 0 10

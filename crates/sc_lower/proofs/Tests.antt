@@ -367,7 +367,10 @@ module _ (temps : ℕ) (scope : Scope) (test : TacStmt-F Bool → Bool) (passed 
   place_passes (Local l) t h d lt =
       all_one test (tac.ObjectPlace d (length scope.params + l)) (emit.ObjectPlace d (length scope.params + l))
       (emit.rolls-ObjectPlace d (length scope.params + l))
-      (and_from _ true (passed (tac.ObjectPlace d (length scope.params + l)) (lt, by (typed_at scope.locals l t h))) refl) where
+      (and_from _ true (passed (tac.ObjectPlace d (length scope.params + l)) (
+        lt,
+        by (typed_at scope.locals l t h),
+      )) refl) where
         by : l < length scope.locals → length scope.params + l < length scope.params + length scope.locals
         by h = omega (numbers, h)
 

@@ -46,11 +46,13 @@ module _ (rules : List Rule) (interfaces : Interfaces) (links : List Link) where
       IsFurther trace start begins after comp rule compromised
   further [] start begins after comp rule compromised violated = absurd (cc)
   further (event ∷ later) start begins after comp rule compromised violated =
-      at (λ next. further later (start + 1) next after comp rule compromised) (move_at rules interfaces begins event) refl
+      at (λ next. further later (start + 1) next after comp rule compromised)
+      (move_at rules interfaces begins event) refl
       violated
     where
       at : ((next : ℕ) → from (start + 1) next later ≡ Violated after comp rule compromised →
-          IsFurther later (start + 1) next after comp rule compromised) → (move : Move) → move_at rules interfaces begins event ≡ move →
+          IsFurther later (start + 1) next after comp rule compromised) → (move : Move) →
+          move_at rules interfaces begins event ≡ move →
           after_move move (λ next. from (start + 1) next later)
           (λ broken. Violated start (performer event) broken (is_compromised links (performer event) start)) ≡
           Violated after comp rule compromised →

@@ -3,7 +3,8 @@
 ghost use Rattle.sc_base.specs.Prelude.{most_brackets};
 ghost use Rattle.sc_parse_expr.specs.Prelude.{Agrees, IsParse, Spells, extended_with, extension_by, extension_within};
 ghost use Rattle.sc_parse_expr.specs.Prelude.{found, joined_with, lead_by, lead_of, leaf_at, leaf_of, loosest_level};
-ghost use Rattle.sc_parse_expr.specs.Prelude.{accessed, named_with, operand_with, paren_with, prefix_with, read, read_expr};
+ghost use Rattle.sc_parse_expr.specs.Prelude.{accessed, named_with, operand_with, paren_with, prefix_with, read};
+ghost use Rattle.sc_parse_expr.specs.Prelude.{read_expr};
 ghost use Rattle.sc_parse_expr.specs.Prelude.{read_nested, unary_level};
 ghost use Rattle.sc_ast.specs.Prelude.{expr_height};
 ghost use Rattle.std.specs.Prelude.{◌≡◌, ℕ, ◌<◌, ◌≤◌, ◌+◌, ◌-◌, ◌^◌, List, IfOk, IsErrOf, Some};

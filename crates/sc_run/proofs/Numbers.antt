@@ -50,11 +50,13 @@ length_blocks_for (n ∷ sizes) (v ∷ args) = ap suc (length_blocks_for sizes a
 
 -- ROOM IS KEPT
 
-pub numbers_fewer : {memory : Memory} {turns fewer : ℕ} → fewer ≤ turns → NumbersSuffice memory turns → NumbersSuffice memory fewer
+pub numbers_fewer : {memory : Memory} {turns fewer : ℕ} → fewer ≤ turns → NumbersSuffice memory turns →
+    NumbersSuffice memory fewer
 numbers_fewer le h = record { numbers = λ comp. omega (arith, le, h.numbers comp) }
 
 -- the next block has a number of 63 bits
-pub next_number : {memory : Memory} {turns : ℕ} (comp : ℕ) → NumbersSuffice memory (suc turns) → length (memory comp) < 2 ^ 63
+pub next_number : {memory : Memory} {turns : ℕ} (comp : ℕ) → NumbersSuffice memory (suc turns) →
+    length (memory comp) < 2 ^ 63
 next_number comp h = omega (arith, h.numbers comp)
 
 pub numbers_for_one : {memory : Memory} {turns : ℕ} → NumbersSuffice memory (suc turns) → NumbersSuffice memory 1
@@ -84,7 +86,8 @@ numbers_assigned true comp place value done h =
 numbers_assigned false comp place value {turns} same h = subst (λ m. NumbersSuffice m turns) (sym same) h
 
 -- the same, whether something was stored or not
-pub numbers_result : {A : Type 0} (result : Result A Cause) (comp : ℕ) (q v : Value) {memory after : Memory} {turns : ℕ} →
+pub numbers_result : {A : Type 0} (result : Result A Cause) (comp : ℕ) (q v : Value)
+    {memory after : Memory} {turns : ℕ} →
     MatchResult result (λ _. store (memory comp) q v ≡ Ok (after comp)) (λ cause. store (memory comp) q v ≡ Err cause) →
     after ≡ with_blocks comp (after comp) memory → OnErr result (after ≡ memory) →
     NumbersSuffice memory turns → NumbersSuffice after turns
@@ -102,7 +105,8 @@ numbers_cleared comp first count {memory} {turns} is h =
 module _ (comp : ℕ) (sizes : List ℕ) (args : List Value) {memory now : Memory}
     (is : now ≡ with_sizes comp sizes args memory) where
   -- the variables of a call take a turn's numbers
-  pub numbers_begun : (turns : ℕ) → length sizes < most_nodes → NumbersSuffice memory (suc turns) → NumbersSuffice now turns
+  pub numbers_begun : (turns : ℕ) → length sizes < most_nodes → NumbersSuffice memory (suc turns) →
+      NumbersSuffice now turns
   numbers_begun turns few h =
       subst (λ m. NumbersSuffice m turns) (sym is) (numbers_with comp (memory comp ++ blocks_for sizes args)
       (omega (
@@ -131,6 +135,7 @@ pub numbers_emitted : (caller : Frame) (callee : Callee) (args : List Value) (cr
     (before : Seen) {after : Seen} →
     after ≡ emitted_call caller callee args crossing before → NumbersSuffice before.memory (suc before.turns) →
     NumbersSuffice after.memory (suc after.turns)
-numbers_emitted caller callee args None before is h = subst (λ seen. NumbersSuffice seen.memory (suc seen.turns)) (sym is) h
+numbers_emitted caller callee args None before is h = subst (λ seen. NumbersSuffice seen.memory (suc seen.turns))
+    (sym is) h
 numbers_emitted caller callee args (Some index) before is h =
     subst (λ seen. NumbersSuffice seen.memory (suc seen.turns)) (sym is) h

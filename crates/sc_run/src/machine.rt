@@ -147,7 +147,8 @@ pub fn make_blocks(blocks: &mut Blocks, callee: &Callee, args: &[Value]) -> Resu
     requires variables { HasFewVariables callee.now.structs.now callee.now.function.now }
     requires numbers { NumbersSuffice (memory_of blocks.old) 1 }
     ensures made { OnOk result (memory_of blocks.new ≡ with_variables callee.now args.now (memory_of blocks.old)) }
-    ensures numbers { (turns : ℕ) → NumbersSuffice (memory_of blocks.old) (suc turns) → NumbersSuffice (memory_of blocks.new) turns }
+    ensures numbers { (turns : ℕ) → NumbersSuffice (memory_of blocks.old) (suc turns) →
+        NumbersSuffice (memory_of blocks.new) turns }
 {
     let params = callee.function.params.as_slice();
     let locals = callee.function.locals.as_slice();

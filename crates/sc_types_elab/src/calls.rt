@@ -95,7 +95,8 @@ fn with_function(
     heads: Heads,
     decl: &Decl,
 ) -> Result<Heads, OutOfMemory>
-    ensures names { IfOk result (λ more. more.names ≡ heads.names ++ map function_name (function_decls (decl.now ∷ []))) }
+    ensures names { IfOk result (λ more. more.names ≡ heads.names ++
+        map function_name (function_decls (decl.now ∷ []))) }
     ensures signatures { IfOk result (λ more. more.signatures ≡ heads.signatures ++
         map (function_signature tags.now) (function_decls (decl.now ∷ []))) }
 {
@@ -173,7 +174,8 @@ fn function_places(alloc: Global, decls: &[Decl]) -> Result<NameList, OutOfMemor
 
 // The names and that of the function of this declaration, if it is one, after them.
 fn push_function_name(places: &mut NameList, decl: &Decl) -> Result<(), OutOfMemory>
-    ensures { OnOk result (places.new ≡ places.old ++ map function_name (function_decls (decl.now ∷ []))) }
+    ensures { OnOk result (places.new ≡ places.old ++
+        map function_name (function_decls (decl.now ∷ []))) }
 {
     match decl {
         Decl::Function(tree) => places.push(tree.head.name.name()),

@@ -201,7 +201,8 @@ module _ (sections : List SectionTree) (number : ℕ) (section : SectionTree) wh
 abbrev pub interface_lines_from : List SectionTree → ℕ → (before : List SectionTree) → List SectionTree → List ℕ
 interface_lines_from sections k before [] = []
 interface_lines_from sections k before (section ∷ rest) =
-    map (line_of_text section.line) (section_interface_lines sections k section (list_any defines_main before) before) ++
+    map (line_of_text section.line)
+    (section_interface_lines sections k section (list_any defines_main before) before) ++
     interface_lines_from sections (suc k) (before ++ section ∷ []) rest
 
 -- the lines of the text at which rules of interfaces are broken; a missing `main` is broken at line 0

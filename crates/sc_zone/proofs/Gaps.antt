@@ -129,7 +129,8 @@ end_within (s ∷ spans) from (suc number) d laid h =
     end_within spans (s.place + s.words) number d laid.2 (omega (arith, h))
 
 -- where the blocks after them change
-pub narrow_insert : (least : ℕ) (spans : List Span) (x : Span) (from count to : ℕ) → AreNarrow least from count spans to →
+pub narrow_insert : (least : ℕ) (spans : List Span) (x : Span) (from count to : ℕ) →
+    AreNarrow least from count spans to →
     AreNarrow least from count (insert spans count x) to
 narrow_insert least spans x from zero to n = n
 narrow_insert least [] x from (suc count) to n = absurd n
@@ -164,7 +165,8 @@ blocked words (s ∷ spans) from (suc count) to q n low high =
           (meets words q s (omega (arith, n.0, low)) (leb-false (s.place + s.words) q is))
 
 -- from the place of a gap that is wide enough
-unblocked : (words : ℕ) (spans : List Span) (from count to : ℕ) → AreNarrow words from count spans to → AreLaid from spans →
+unblocked : (words : ℕ) (spans : List Span) (from count to : ℕ) → AreNarrow words from count spans to →
+    AreLaid from spans →
     IsWide words to (drop count spans) → list_all (misses words to) spans ≡ true
 unblocked words [] from zero to n laid wide = refl
 unblocked words (s ∷ spans) from zero to n laid wide =
@@ -208,7 +210,8 @@ wide_after words place (suc number) (s ∷ spans) h = wide_after words place num
 
 -- a block at a number is laid, too
 pub laid_at : (spans : List Span) (from number : ℕ) (d : Span) → AreLaid from spans → number < length spans →
-    (from ≤ (get_or spans number d).place) × ((get_or spans number d).place + (get_or spans number d).words ≤ zone_words)
+    (from ≤ (get_or spans number d).place) ×
+    ((get_or spans number d).place + (get_or spans number d).words ≤ zone_words)
 laid_at [] from number d laid h = absurd (omega (arith, h))
 laid_at (s ∷ spans) from zero d laid h = (laid.0, laid_to spans (s.place + s.words) laid.2)
 laid_at (s ∷ spans) from (suc number) d laid h =

@@ -46,7 +46,8 @@ pub record IsTaken (words : ℕ) (spans : List Span) (gap : Gap) : Type 0 where
   pub put : insert spans gap.next (record { place = gap.place; words = words }) ≡
       with_span (record { place = gap.place; words = words }) spans
   pub laid : AreLaid 0 (insert spans gap.next (record { place = gap.place; words = words }))
-  pub narrow : AreNarrow words 0 gap.next (insert spans gap.next (record { place = gap.place; words = words })) gap.place
+  pub narrow : AreNarrow words 0 gap.next
+      (insert spans gap.next (record { place = gap.place; words = words })) gap.place
   pub room : length spans < zone_words
   pub least : least_free spans words ≡ Some gap.place
 
@@ -60,7 +61,8 @@ takes words spans seen gap some same found laid within = record {
   room = omega (
     arith,
     laid_length _ 0 more,
-    length_insert spans (block words some gap.place) gap.next (narrow_count words spans 0 gap.next gap.place now.narrow),
+    length_insert spans (block words some gap.place) gap.next
+        (narrow_count words spans 0 gap.next gap.place now.narrow),
   );
   least = found_least words spans gap now laid some within;
 } where

@@ -19,7 +19,8 @@ pub returns-clause-explained : goal.returns-clause-explained
 returns-clause-explained c =
     explained c.args.source.now c.args.inputs.now c.args.steps c.args.events c.program.result.now
     c.program.ensures.program c.in-Ok.image c.in-Ok.ensures.compiled c.in-Ok.ensures.image
-    c.in-Ok-run_image.observed.trace c.as_slice-emitted.result.now c.as_slice-emitted.ensures c.in-Ok-run_image.ensures.trace
+    c.in-Ok-run_image.observed.trace c.as_slice-emitted.result.now c.as_slice-emitted.ensures
+    c.in-Ok-run_image.ensures.trace
     c.in-Ok-run_image.observed.stop c.in-Ok-run_image.ensures.stop c.in-Ok-chain.links c.in-Ok-chain.ensures
     (within_limit c.args.source.now c.in-Ok-run_image.observed.trace c.program.ensures.source
     (emitted_allowed c.args.source.now c.args.inputs.now c.args.steps c.args.events c.program.result.now

@@ -6,7 +6,8 @@ use Rattle.sc_run.proofs.machine.stored.Goals as goal
 pub invariant_of-machine : goal.invariant_of-machine
 invariant_of-machine c =
     record {
-      numbers = numbers_result c.store.result c.args.frame.now.scope.comp.now c.args.place c.args.value c.store.ensures.value
+      numbers = numbers_result c.store.result c.args.frame.now.scope.comp.now c.args.place c.args.value
+          c.store.ensures.value
           c.store.ensures.others c.store.ensures.err c.args.machine.now.numbers;
     }
 
