@@ -1,4 +1,5 @@
 pub mod Prelude
 pub mod Laws
 pub mod Matching
+pub mod Places
 pub mod Verdict
