@@ -27,7 +27,7 @@ DOCUMENTS = ("README.md", "docs/PROOFS.md")
 INNER = re.compile(r"sc_emit_|.*_laws$|sc_types_|sc_parse_|sc_run_value$")
 PASSING = ("Prelude.antt", "Common.antt", "Lib.antt")
 # Headed Helping though a contract reaches them: the heads change when these crates are next opened.
-STILL_HELPING = ("crates/sc_zone/specs/Gaps.antt", "crates/sc_policy/specs/Index.antt")
+STILL_HELPING = ("crates/sc_zone/specs/Gaps.antt", "crates/sc_parse_expr/specs/TypeReaders.antt")
 HEAD = """# What has to be read
 
 To believe what a contract of this repository claims, trust the prover and read the definitions that the contract cites,
@@ -40,7 +40,7 @@ Code and proofs aren't in it: the prover checks them against these definitions.
 gate runs it. It follows each name by the imports of its file. A type of the code counts as contracts see it: a struct
 by its fields, or, where it has a model (`impl Model`), by the type of its values. A trait counts with the contracts of
 its functions. Files of `specs/` headed `Helping` only model code: no public call's contract reaches them, but for
-`Gaps` of `sc_zone` and `Index` of `sc_policy`, whose heads are wrong so far.
+`Gaps` of `sc_zone` and `TypeReaders` of `sc_parse_expr`, whose heads are wrong so far.
 
 Read from the top: the contract of `{function}` at {place}, then the definitions of each crate in the order of the
 tables. The number after a definition is its line.

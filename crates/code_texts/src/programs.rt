@@ -31,6 +31,31 @@ int main(void) {
 }
 ";
 
+/// Blocks that are allocated and freed, also in the head of a `for`; one of no elements; and the size of a struct.
+pub const BLOCKS: &[u8] = b"#pragma compartment Main
+#pragma import Env output
+void output(int v);
+struct S {
+  int a;
+  int b[2];
+};
+int main(void) {
+  struct S *s;
+  int *p;
+  int n = 0;
+  s = malloc(2 * sizeof(struct S));
+  s[1].b[1] = sizeof(struct S);
+  output(s[1].b[1]);
+  for (p = malloc(sizeof(int)); n < 3; free(p)) {
+    p = malloc(n * sizeof(int));
+    output(p == 0);
+    n++;
+  }
+  free(s);
+  return 0;
+}
+";
+
 const DIVISION_BY_ZERO: &[u8] = b"#pragma compartment Main
 #pragma import Env output
 void output(int v);
@@ -113,6 +138,7 @@ pub const PROGRAMS: &[&[u8]] = &[
     SEVEN,
     ENDLESS_OUTPUT,
     MEMBERS,
+    BLOCKS,
     SHORT_LOOP,
     GREATEST_OUTPUT,
     DIVISION_BY_ZERO,

@@ -34,8 +34,10 @@ fn append_name(bytes: &mut Vec<u8>, name: &[u8]) -> Result<(), OutOfMemory> {
     Ok(())
 }
 
-fn flags_of(imports: &[Import]) -> u8 {
-    u8::from(imports.contains(&Import::Input)) | u8::from(imports.contains(&Import::Output)) << 1
+fn flags_of(imports: &[Import], heap: bool) -> u8 {
+    u8::from(imports.contains(&Import::Input))
+        | u8::from(imports.contains(&Import::Output)) << 1
+        | u8::from(heap) << 2
 }
 
 /// How many there are of what doesn't exceed its field.
@@ -127,7 +129,7 @@ fn append_comp(
         return Ok(None);
     };
     append_name(bytes, interface.name.as_bytes())?;
-    bytes.push(flags_of(imports))?;
+    bytes.push(flags_of(imports, section.uses_heap()))?;
     append_exports(bytes, comp, exports)?;
     append_imports(bytes, imports)?;
     append_code(bytes, section.words(alloc, functions, count)?.as_slice())?;
@@ -156,7 +158,7 @@ pub fn image_by(
         }
         number = number.wrapping_add(1);
     }
-    let mut bytes = Vec::from_slice(alloc, b"SCIM\x01\x00")?;
+    let mut bytes = Vec::from_slice(alloc, b"SCIM\x02\x00")?;
     append_byte(&mut bytes, comps.len())?;
     bytes.push(interfaces.main.number())?;
     append_word(&mut bytes, main)?;

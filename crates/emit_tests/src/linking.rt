@@ -104,7 +104,16 @@ fn with_low(instr: Instr, address: u32) -> Option<Instr> {
     }
 }
 
+fn uses_heap(code: &Code) -> bool {
+    code.tree().heap
+}
+
 impl Section {
+    /// Whether one of its functions allocates or frees.
+    pub fn uses_heap(&self) -> bool {
+        self.codes.iter().any(|code| uses_heap(code))
+    }
+
     /// A section with this number of exports, whose functions have codes by such a choice.
     pub fn new(
         alloc: Global,

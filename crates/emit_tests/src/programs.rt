@@ -379,6 +379,105 @@ int main(void) {
     ],
 );
 
+// Blocks of words, structs and pointers, that are freed in another order than they were allocated, so that a later one
+// lies between them; what is larger than a gap, or than the zone; blocks of no cells; null that is freed; a list that
+// another call frees; and addresses of one compartment beside those of another that allocates as well.
+const HEAP: Case = (
+    b"#pragma compartment M
+#pragma import N sum
+#pragma import Env output
+struct cell {
+  int value;
+  struct cell *next;
+};
+int sum(int n);
+void output(int v);
+struct cell *list;
+void push(int v) {
+  struct cell *first;
+  first = malloc(sizeof(struct cell));
+  first->value = v;
+  first->next = list;
+  list = first;
+}
+void drop(void) {
+  struct cell *rest;
+  while (list != 0) {
+    output(list->value);
+    rest = list->next;
+    free(list);
+    list = rest;
+  }
+}
+int main(void) {
+  int *a;
+  int *b;
+  int **c;
+  unsigned int n;
+  a = malloc(4 * sizeof(int));
+  b = malloc(3 * sizeof(int));
+  c = malloc(sizeof(int *));
+  a[3] = 7;
+  b[0] = 8;
+  *c = b + 2;
+  **c = 9;
+  output(a[3] + b[0] * 10 + b[2] * 100);
+  free(a);
+  a = malloc(5 * sizeof(int));
+  free(b);
+  b = malloc(7 * sizeof(int));
+  for (n = 0; n < 7; n++) {
+    b[n] = 1 << n;
+  }
+  output(b[0] + b[6]);
+  free(0);
+  free(b);
+  b = malloc(0 * sizeof(int));
+  output(b == 0);
+  free(b);
+  b = malloc(65536 * sizeof(int));
+  output(b == 0);
+  n = 65536;
+  list = malloc(n * sizeof(struct cell));
+  output(list == 0);
+  for (n = 0; n < 3; n++) {
+    push(n + sizeof(struct cell));
+  }
+  drop();
+  n = sum(5);
+  output(n);
+  output(a == 0);
+  free(a);
+  free(c);
+  b = malloc(65536 * sizeof(int));
+  b[65535] = 1;
+  output(b[65535]);
+  return sizeof(unsigned int) * 2;
+}
+#pragma compartment N
+#pragma export sum
+int sum(int n) {
+  int *squares;
+  int i;
+  int total;
+  squares = malloc(n * sizeof(int));
+  for (i = 0; i < n; i++) {
+    squares[i] = i * i;
+  }
+  total = 0;
+  while (i > 0) {
+    i--;
+    total += squares[i];
+  }
+  free(squares);
+  return total;
+}
+",
+    &[],
+    b"oooooooocroooe",
+    &[987, 65, 1, 1, 1, 10, 9, 8, 1, 0, 5, 30, 30, 0, 1, 8],
+);
+
 // The temporaries lie only in registers, only in slots, or in both in turn.
 const PLACES: [[Place; 4]; 4] = [
     [Register(0), Register(1), Register(2), Register(3)],
@@ -416,7 +515,7 @@ fn is_right(alloc: Global, case: Case, choices: &[Choice]) -> Result<bool, Fail>
 #[test]
 fn statements_do_what_they_mean(rt: HostRuntime) -> Result<(), Fail> {
     let choices = choices(rt.alloc())?;
-    for case in [CONTROL, OWN, ACROSS, ENVIRONMENT, POINTERS, WORDS] {
+    for case in [CONTROL, OWN, ACROSS, ENVIRONMENT, POINTERS, WORDS, HEAP] {
         assert!(rt; is_right(rt.alloc(), case, choices.as_slice())?);
     }
     Ok(())

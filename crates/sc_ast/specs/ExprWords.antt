@@ -5,6 +5,7 @@ use Rattle.std.specs.Fmt.{decimal}
 use Rattle.std.specs.List.{join_by}
 use Rattle.sc_ast.specs.Numbers.{Number}
 use Rattle.sc_ast.specs.Pieces.{Piece, word, blank, in_parens, comma}
+use Rattle.sc_ast.specs.TypeWords.{type_words}
 use Rattle.sc_base.specs.declared.op.UnaryOp.{UnaryOp}
 use Rattle.sc_base.specs.declared.op.UnaryOp.TheVariants as unary
 use Rattle.sc_base.specs.declared.op.BinaryOp.{BinaryOp}
@@ -12,6 +13,7 @@ use Rattle.sc_base.specs.declared.op.BinaryOp.TheVariants as binary
 use Rattle.sc_ast.specs.declared.expr.ExprTree.{ExprTree, ExprTree-F, fold-ExprTree}
 use Rattle.sc_ast.specs.declared.expr.ExprTree.TheOpen as term
 use Rattle.sc_ast.specs.declared.expr.CallTree.{CallTree}
+use Rattle.sc_ast.specs.declared.types.TypeName.{TypeName}
 
 abbrev pub unary_text : UnaryOp → List ℕ
 unary_text unary.Minus = codes "-"
@@ -67,6 +69,10 @@ binary_words op left right before level =
     in_parens (nat_lt level (level_of op)) (left [] (level_of op) ++ blank ∷ word (binary_text op) ∷ blank ∷
     right [] (level_of op - 1))
 
+-- `sizeof(int *)`
+abbrev pub sizeof_words : TypeName → List Piece
+sizeof_words of = word (codes "sizeof") ∷ word (codes "(") ∷ (type_words of ++ word (codes ")") ∷ [])
+
 -- the words of an expression, by those of its parts
 abbrev pub expr_step : ExprTree-F Printed → Printed
 expr_step (term.Literal literal) before level = word (literal_text literal) ∷ []
@@ -79,6 +85,7 @@ expr_step (term.Member base name) before level = base [] postfix_level ++ word (
 expr_step (term.Arrow base name) before level = base [] postfix_level ++ word (codes "->") ∷ word name ∷ []
 expr_step (term.Deref of) before level = prefix_words (codes "*") of before level
 expr_step (term.Address of) before level = prefix_words (codes "&") of before level
+expr_step (term.SizeOf of) before level = sizeof_words of
 
 abbrev pub words_at : ExprTree → Printed
 words_at = fold-ExprTree Printed expr_step

@@ -4,7 +4,7 @@ use Rattle.sc_ast.specs.declared.expr.ExprTree.{ExprTree, ExprTree-F, fold-ExprT
 use Rattle.sc_ast.specs.declared.expr.ExprTree.TheOpen as term
 use Rattle.sc_ast.specs.declared.expr.CallTree.{CallTree}
 use Rattle.sc_ast.specs.declared.stmt.SimpleKind.{SimpleKind}
-use Rattle.sc_ast.specs.declared.stmt.SimpleKind.TheVariants.{Assign, AssignCall, Call}
+use Rattle.sc_ast.specs.declared.stmt.SimpleKind.TheVariants.{Assign, AssignCall, Call, Malloc, Free}
 use Rattle.sc_ast.specs.declared.stmt.SimpleTree.{SimpleTree}
 use Rattle.sc_ast.specs.declared.stmt.StmtTree.{StmtTree, StmtTree-F, fold-StmtTree}
 use Rattle.sc_ast.specs.declared.stmt.StmtKind.{StmtKind, StmtKind-F, fold-StmtKind}
@@ -31,6 +31,7 @@ expr_height_step (term.Member base name) = base + 1
 expr_height_step (term.Arrow base name) = base + 1
 expr_height_step (term.Deref of) = of + 1
 expr_height_step (term.Address of) = of + 1
+expr_height_step (term.SizeOf of) = 1
 
 abbrev pub expr_height : ExprTree → ℕ
 expr_height = fold-ExprTree ℕ expr_height_step
@@ -42,11 +43,18 @@ exprs_height exprs = highest (map expr_height exprs)
 abbrev pub call_height : CallTree → ℕ
 call_height call = exprs_height call.args
 
+-- an absent count has no height
+abbrev pub count_height : Option ExprTree → ℕ
+count_height None = 0
+count_height (Some count) = expr_height count
+
 -- the height of the highest part, 0 where a statement has none
 abbrev pub simple_kind_height : SimpleKind → ℕ
 simple_kind_height (Assign place value) = max (expr_height place) (expr_height value)
 simple_kind_height (AssignCall place call) = max (expr_height place) (call_height call)
 simple_kind_height (Call call) = call_height call
+simple_kind_height (Malloc place count of) = max (expr_height place) (count_height count)
+simple_kind_height (Free pointer) = expr_height pointer
 
 abbrev pub simple_height : SimpleTree → ℕ
 simple_height simple = simple_kind_height simple.kind + 1
@@ -59,6 +67,8 @@ abbrev pub kind_height_step : StmtKind-F ℕ ℕ → ℕ
 kind_height_step (layer.Assign place value) = max (expr_height place) (expr_height value)
 kind_height_step (layer.AssignCall place call) = max (expr_height place) (call_height call)
 kind_height_step (layer.Call call) = call_height call
+kind_height_step (layer.Malloc place count of) = max (expr_height place) (count_height count)
+kind_height_step (layer.Free pointer) = expr_height pointer
 kind_height_step (layer.If cond then_part else_part) =
     max (expr_height cond) (max (highest then_part) (highest else_part))
 kind_height_step (layer.While cond body) = max (expr_height cond) (highest body)

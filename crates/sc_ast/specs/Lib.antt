@@ -1,4 +1,5 @@
 pub mod Prelude
+pub mod Allocated
 pub mod ExprWords
 pub mod Heads
 pub mod Height
@@ -11,3 +12,4 @@ pub mod Places
 pub mod SectionWords
 pub mod Simple
 pub mod StmtWords
+pub mod TypeWords

@@ -1,15 +1,14 @@
 -- How a section is printed: its compartment line, its directives, and its declarations, one a line.
-use Rattle.std.specs.Prelude.{ℕ, Bool, true, false, ◌||◌, nat_lt, codes, List, [], ◌∷◌, ◌++◌, replicate, Option, Some}
-use Rattle.std.specs.Prelude.{None, is_some}
+use Rattle.std.specs.Prelude.{ℕ, Bool, true, false, ◌||◌, nat_lt, codes, List, [], ◌∷◌, ◌++◌, Option, Some, None}
+use Rattle.std.specs.Prelude.{is_some}
 use Rattle.std.specs.List.{flat_map, join_by}
 use Rattle.sc_ast.specs.Numbers.{Number}
 use Rattle.sc_ast.specs.Heads.{head_of}
 use Rattle.sc_ast.specs.Pieces.{Piece, word, blank, newline, text_of, blank_if, comma, line_of}
 use Rattle.sc_ast.specs.ExprWords.{literal_text, expr_words}
 use Rattle.sc_ast.specs.StmtWords.{equals, ended, layouts, lines_at}
+use Rattle.sc_ast.specs.TypeWords.{base_words, star_words}
 use Rattle.sc_ast.specs.declared.expr.ExprTree.{ExprTree}
-use Rattle.sc_ast.specs.declared.types.BaseTree.{BaseTree}
-use Rattle.sc_ast.specs.declared.types.BaseTree.TheVariants as base
 use Rattle.sc_ast.specs.declared.types.TypeTree.{TypeTree}
 use Rattle.sc_ast.specs.declared.types.TypeName.{TypeName}
 use Rattle.sc_ast.specs.declared.section.ExportLine.{ExportLine}
@@ -27,15 +26,6 @@ use Rattle.sc_ast.specs.declared.section.FunctionTree.{FunctionTree}
 use Rattle.sc_ast.specs.declared.section.Decl.{Decl}
 use Rattle.sc_ast.specs.declared.section.Decl.TheVariants as decl
 use Rattle.sc_ast.specs.declared.section.SectionTree.{SectionTree}
-
-abbrev pub base_words : BaseTree → List Piece
-base_words base.Int = word (codes "int") ∷ []
-base_words base.Unsigned = word (codes "unsigned") ∷ blank ∷ word (codes "int") ∷ []
-base_words (base.Struct tag) = word (codes "struct") ∷ blank ∷ word tag ∷ []
-
--- `*`, `stars` times
-abbrev pub star_words : ℕ → List Piece
-star_words stars = replicate stars (word (codes "*"))
 
 -- the length of an array, which has the type `unsigned int` where `int` doesn't hold it
 abbrev pub length_number : ℕ → Number

@@ -2,12 +2,14 @@
 use Rattle.std.specs.Prelude.{ℕ, Bool, true, false, ◌&&◌, ◌==◌, codes, List, [], ◌∷◌, ◌++◌, length, map, Option, Some}
 use Rattle.std.specs.Prelude.{None, if◌then◌else◌}
 use Rattle.std.specs.List.{flat_map, list_all}
+use Rattle.sc_ast.specs.Allocated.{malloc_argument}
 use Rattle.sc_ast.specs.Pieces.{Piece, word, blank, indent, newline, deeper, line_of}
 use Rattle.sc_ast.specs.ExprWords.{expr_words, place_words, call_words}
 use Rattle.sc_ast.specs.declared.expr.ExprTree.{ExprTree}
 use Rattle.sc_ast.specs.declared.expr.CallTree.{CallTree}
+use Rattle.sc_ast.specs.declared.types.TypeName.{TypeName}
 use Rattle.sc_ast.specs.declared.stmt.SimpleKind.{SimpleKind}
-use Rattle.sc_ast.specs.declared.stmt.SimpleKind.TheVariants.{Assign, AssignCall, Call}
+use Rattle.sc_ast.specs.declared.stmt.SimpleKind.TheVariants.{Assign, AssignCall, Call, Malloc, Free}
 use Rattle.sc_ast.specs.declared.stmt.SimpleTree.{SimpleTree}
 use Rattle.sc_ast.specs.declared.stmt.StmtTree.{StmtTree, StmtTree-F, fold-StmtTree}
 use Rattle.sc_ast.specs.declared.stmt.StmtKind.{StmtKind, StmtKind-F, fold-StmtKind}
@@ -25,10 +27,25 @@ assign_words place value = place_words place ++ (equals ++ expr_words value)
 abbrev pub assign_call_words : ExprTree → CallTree → List Piece
 assign_call_words place call = place_words place ++ (equals ++ call_words call)
 
+-- `malloc(e * sizeof(int))`
+abbrev pub allocation_words : Option ExprTree → TypeName → List Piece
+allocation_words count of = word (codes "malloc") ∷ word (codes "(") ∷
+    (expr_words (malloc_argument count of) ++ word (codes ")") ∷ [])
+
+-- `x = malloc(e * sizeof(int))`
+abbrev pub malloc_words : ExprTree → Option ExprTree → TypeName → List Piece
+malloc_words place count of = place_words place ++ (equals ++ allocation_words count of)
+
+-- `free(e)`
+abbrev pub free_words : ExprTree → List Piece
+free_words pointer = word (codes "free") ∷ word (codes "(") ∷ (expr_words pointer ++ word (codes ")") ∷ [])
+
 abbrev pub simple_words : SimpleKind → List Piece
 simple_words (Assign place value) = assign_words place value
 simple_words (AssignCall place call) = assign_call_words place call
 simple_words (Call call) = call_words call
+simple_words (Malloc place count of) = malloc_words place count of
+simple_words (Free pointer) = free_words pointer
 
 -- `;` at the end
 abbrev pub ended : List Piece → List Piece
@@ -98,6 +115,8 @@ kind_step layer.Empty = same_everywhere (word (codes ";") ∷ [])
 kind_step (layer.Assign place value) = same_everywhere (ended (assign_words place value))
 kind_step (layer.AssignCall place call) = same_everywhere (ended (assign_call_words place call))
 kind_step (layer.Call call) = same_everywhere (ended (call_words call))
+kind_step (layer.Malloc place count of) = same_everywhere (ended (malloc_words place count of))
+kind_step (layer.Free pointer) = same_everywhere (ended (free_words pointer))
 kind_step (layer.If cond then_part else_part) = record { is_if = true; words = if_words cond then_part else_part }
 kind_step (layer.While cond body) = record {
   is_if = false;

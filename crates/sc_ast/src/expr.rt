@@ -1,5 +1,6 @@
 use crate::ident::Ident;
 use crate::number::Literal;
+use crate::types::TypeName;
 use sc_base::{BinaryOp, UnaryOp};
 use sqlite_items::{Boxed, Items};
 
@@ -40,6 +41,8 @@ pub enum ExprTree {
     Deref(Boxed<ExprTree>),
     /// `&x`
     Address(Boxed<ExprTree>),
+    /// `sizeof(int *)` (C11 6.5.3.4), of a type alone
+    SizeOf(TypeName),
 }
 
 /// Expressions in order, as the arguments of a call.

@@ -1,8 +1,8 @@
 //! How high trees are. Heights stop at 4294967295.
 
-ghost use Rattle.sc_ast.specs.Prelude.{call_height, decl_height, expr_height, exprs_height, function_height};
-ghost use Rattle.sc_ast.specs.Prelude.{init_height, kind_height, limited, local_height, locals_height, option_height};
-ghost use Rattle.sc_ast.specs.Prelude.{section_height, simple_kind_height, stmt_height, stmts_height};
+ghost use Rattle.sc_ast.specs.Prelude.{call_height, count_height, decl_height, expr_height, exprs_height};
+ghost use Rattle.sc_ast.specs.Prelude.{function_height, init_height, kind_height, limited, local_height, locals_height};
+ghost use Rattle.sc_ast.specs.Prelude.{option_height, section_height, simple_kind_height, stmt_height, stmts_height};
 ghost use Rattle.std.specs.Prelude.{◌≡◌, ◌+◌};
 
 use crate::expr::{CallTree, ExprTree, Exprs};
@@ -27,6 +27,7 @@ pub fn expr_height(expr: &ExprTree) -> u32
         ExprTree::Arrow { base, .. } => one_more(expr_height(base.get())),
         ExprTree::Deref(of) => one_more(expr_height(of.get())),
         ExprTree::Address(of) => one_more(expr_height(of.get())),
+        ExprTree::SizeOf(_) => 1,
     }
 }
 
@@ -58,6 +59,8 @@ fn kind_height(kind: &StmtKind) -> u32
         StmtKind::Assign { place, value } => expr_height(place.get()).max(expr_height(value)),
         StmtKind::AssignCall { place, call } => expr_height(place.get()).max(call_height(call)),
         StmtKind::Call(call) => call_height(call),
+        StmtKind::Malloc { place, count, .. } => expr_height(place.get()).max(count_height(count)),
+        StmtKind::Free(pointer) => expr_height(pointer),
         StmtKind::If {
             cond,
             then_part,
@@ -145,6 +148,19 @@ fn simple_kind_height(kind: &SimpleKind) -> u32
         SimpleKind::Assign { place, value } => expr_height(place.get()).max(expr_height(value)),
         SimpleKind::AssignCall { place, call } => expr_height(place.get()).max(call_height(call)),
         SimpleKind::Call(call) => call_height(call),
+        SimpleKind::Malloc { place, count, .. } => {
+            expr_height(place.get()).max(count_height(count))
+        }
+        SimpleKind::Free(pointer) => expr_height(pointer),
+    }
+}
+
+fn count_height(count: &Option<ExprTree>) -> u32
+    ensures { result ≡ limited (count_height count.now) }
+{
+    match count {
+        None => 0,
+        Some(count) => expr_height(count),
     }
 }
 

@@ -6,7 +6,7 @@
 //!   contracts see a text, a number with its type, a number and an expression, and each getter gives the fact.
 //! - `NonEmpty` is a list with at least one item; contracts see the list.
 //! - `TypeName` is a type without an array length, `FunctionHead` a head whose parameters all have names,
-//!   `SimpleTree` one of the three statements that may stand in the head of a `for`: these can hold nothing else.
+//!   `SimpleTree` one of the five statements that may stand in the head of a `for`: these can hold nothing else.
 #![tactic(auto)]
 
 mod expr;

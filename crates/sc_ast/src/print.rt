@@ -10,6 +10,7 @@ ghost use Rattle.std.specs.List.{flat_map};
 mod decl;
 mod expr;
 mod stmt;
+mod types;
 mod words;
 
 use crate::expr::ExprTree;

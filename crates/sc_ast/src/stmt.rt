@@ -3,6 +3,7 @@ ghost use Rattle.std.specs.Prelude.{◌≡◌};
 
 use crate::expr::{CallTree, ExprTree};
 use crate::place::PlaceTree;
+use crate::types::TypeName;
 use sqlite_items::{Boxed, Items};
 
 /// A statement (C11 6.8) and the line, counted in its section, at which it begins.
@@ -31,6 +32,14 @@ pub enum StmtKind {
     },
     /// `f(e);`
     Call(CallTree),
+    /// `x = malloc(e * sizeof(int));`, or `x = malloc(sizeof(int));` without a count (C11 7.22.3.4)
+    Malloc {
+        place: PlaceTree,
+        count: Option<ExprTree>,
+        of: TypeName,
+    },
+    /// `free(e);` (C11 7.22.3.3)
+    Free(ExprTree),
     /// `if (e) { .. } else { .. }`; without `else` the last part is empty, and `else if` is a list of one `If`.
     If {
         cond: ExprTree,
@@ -75,11 +84,25 @@ pub struct SimpleTree {
 #[derive(Drop)]
 pub enum SimpleKind {
     /// `x = e`
-    Assign { place: PlaceTree, value: ExprTree },
+    Assign {
+        place: PlaceTree,
+        value: ExprTree,
+    },
     /// `x = f(e)`
-    AssignCall { place: PlaceTree, call: CallTree },
+    AssignCall {
+        place: PlaceTree,
+        call: CallTree,
+    },
     /// `f(e)`
     Call(CallTree),
+    /// `x = malloc(e * sizeof(int))`
+    Malloc {
+        place: PlaceTree,
+        count: Option<ExprTree>,
+        of: TypeName,
+    },
+    /// `free(e)`
+    Free(ExprTree),
 }
 
 impl SimpleTree {
@@ -92,6 +115,8 @@ impl SimpleTree {
             SimpleKind::Assign { place, value } => StmtKind::Assign { place, value },
             SimpleKind::AssignCall { place, call } => StmtKind::AssignCall { place, call },
             SimpleKind::Call(call) => StmtKind::Call(call),
+            SimpleKind::Malloc { place, count, of } => StmtKind::Malloc { place, count, of },
+            SimpleKind::Free(pointer) => StmtKind::Free(pointer),
         };
         StmtTree { line, kind }
     }

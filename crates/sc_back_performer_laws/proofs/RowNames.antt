@@ -16,7 +16,7 @@ use Rattle.sc_back_performer_laws.proofs.BackTree.{row_at, stmt_at, while_at}
 module _ (own callables hiding : List Text) where
   -- what may be named in a body: the counter and the parameters, and functions
   abbrev pub known : Known
-  known = record { variables = counter_name ∷ own; functions = callables; hiding = hiding }
+  known = record { tags = []; variables = counter_name ∷ own; functions = callables; hiding = hiding }
 
   literal_known : (word : ℕ) → expr_known known (literal word) ≡ true
   literal_known word = search (rules, exprs.the_lemmas)

@@ -177,6 +177,7 @@ module _ (interfaces : Interfaces) (comp : ℕ) (rows : List Row) (interface : I
       (absent : variable_in Param (typed_params 0 f.params) counter_name ≡ None) →
       visible_of section (function_at f line close_line body) ≡ visible (typed_params 0 f.params) absent callees
   visible_is callees f line close_line body absent = λ i. record {
+    tags = no_tags i;
     structs = structs_none i;
     globals = map (global_variable (no_tags i)) (one_global i);
     params = map (typed_param (no_tags i)) (function_params 0 f.params);

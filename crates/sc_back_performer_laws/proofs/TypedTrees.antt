@@ -27,6 +27,7 @@ module _ (params : List TypedParam) (absent : variable_in Param params counter_n
   -- what is visible in a function: the counter, and parameters that aren't called so
   abbrev pub visible : Visible
   visible = record {
+    tags = [];
     structs = [];
     globals = record { name = counter_name; ty = ty.Unsigned } ∷ [];
     params = params;

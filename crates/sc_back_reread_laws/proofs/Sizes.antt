@@ -110,7 +110,10 @@ words_long = (
               omega arith,
               (
                 omega arith,
-                (omega arith, (omega arith, (omega arith, (omega arith, tt)))),
+                (
+                  omega arith,
+                  (omega arith, (omega arith, (omega arith, (omega arith, (omega arith, (omega arith, tt)))))),
+                ),
               ),
             ),
           ),

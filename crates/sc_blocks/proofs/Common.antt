@@ -7,9 +7,12 @@ pub use Rattle.std.proofs.Common.{◌++◌, ◌+◌, ◌-◌, ◌<◌, ◌==◌,
 pub use Rattle.std.proofs.lemmas.Bool.{cases_lt, eqb-false}
 pub use Rattle.std.proofs.lemmas.List.Sorted.{answers_always, searchable_from_sorted}
 pub use Rattle.std.specs.List.{HoldsAt, remove_range}
+pub use Rattle.std.specs.Prelude.{MatchOption}
 pub use Rattle.sc_core.specs.Prelude.{Block, Blocks, Memory, bind, live_cells, living, variable, with_blocks}
 pub use Rattle.sc_core.specs.declared.value.Cell.{Cell}
-pub use Rattle.sc_blocks.specs.Cells.{block_of, stored_in}
-pub use Rattle.sc_blocks.specs.Rows.{cause_of, cleared, given_back, memory_of, put_in, store_cell}
-pub use Rattle.sc_blocks.specs.Slots.{IsOver, IsRising, cells_among, count_below, laid_out, without}
+pub use Rattle.sc_blocks.specs.Cells.{put_at, put_into, stored_in}
+pub use Rattle.sc_blocks.specs.Rows.{cause_of, cleared, ended_block, free_cell, free_place, given_back, memory_of}
+pub use Rattle.sc_blocks.specs.Rows.{put_in, store_cell, with_words}
+pub use Rattle.sc_blocks.specs.Slots.{AreApart, HasCells, IsOver, IsRising, LivesWith, allocated_or_ended, block_at, count_below}
+pub use Rattle.sc_blocks.specs.Slots.{laid_out, slot_among, slot_block, spans_in, variable_or, without}
 pub use Rattle.sc_blocks.specs.declared.slots.Slot.{Slot}

@@ -1,4 +1,6 @@
+pub mod Allocating
 pub mod Common
+pub mod Heaps
 pub mod Laying
 pub mod Living
 pub mod Memories

@@ -2,6 +2,8 @@
 use Rattle.sc_blocks.proofs.Common.{Blocks, Bool, List, Memory, [], ap, arith, cleared, eqb-true, false, get_or}
 use Rattle.sc_blocks.proofs.Common.{if◌then◌else◌, length, memory_of, refl, slice_index_or, slice_set, subst, suc, sym}
 use Rattle.sc_blocks.proofs.Common.{true, with_blocks, zero, ℕ, ◌++◌, ◌<◌, ◌==◌, ◌∙◌, ◌∷◌, ◌≡◌, ◌≤◌}
+use Rattle.std.specs.Prelude.{is_some, option_map}
+use Rattle.sc_blocks.proofs.Common.{None, Option, Some}
 use Rattle.std.proofs.lemmas.List.{get_or_default}
 use Rattle.std.proofs.Math.Dec.{eqb-suc-zero, eqb-zero-suc, eqb-suc-suc}
 
@@ -64,3 +66,13 @@ pub none_end : (rows : List Blocks) (comp first count : ℕ) → length rows ≤
 none_end rows comp first count h =
     (λ i c. same_at (memory_of rows) comp c _ refl i) ∙ ap (λ bs. with_blocks comp bs (memory_of rows))
     (no_row rows comp h ∙ sym (nothing_cleared first count) ∙ ap (cleared first count) (sym (no_row rows comp h)))
+
+-- the number of a new block, where there is one
+pub no_number : (number : ℕ) (place : Option ℕ) → is_some place ≡ false → None ≡ option_map (λ place. number) place
+no_number number None none = refl
+no_number number (Some place) none = cc none
+
+pub a_number : (number made : ℕ) (place : Option ℕ) → number ≡ made → is_some place ≡ true →
+    Some number ≡ option_map (λ place. made) place
+a_number number made None same some = cc some
+a_number number made (Some place) same some = ap Some same

@@ -1,11 +1,14 @@
 -- Rows of blocks as a memory, and loads and stores of single cells (C11 6.2.4, 6.5.3.2, 6.5.6).
-use Rattle.sc_core.specs.Prelude.{Block, Blocks, Memory, bind, cells_at, ended, is_live, living}
-use Rattle.std.specs.Prelude.{ℕ, Bool, true, false, if◌then◌else◌, nat_lt, List, [], length, map, Option, None, Some}
+use Rattle.sc_core.specs.Prelude.{Block, Blocks, Memory, allocated_at, bind, cells_at, ended, freed, is_live}
+use Rattle.sc_core.specs.Prelude.{living, spans_of}
+unfoldable use Rattle.sc_zone.specs.Prelude.{least_free}
+use Rattle.std.specs.Prelude.{ℕ, Bool, true, false, if◌then◌else◌, nat_lt, List, [], ◌∷◌, ◌++◌, length, map, Option, None, Some}
 use Rattle.std.specs.Prelude.{Result, Ok, Err, slice_get, slice_set, slice_index_or}
 use Rattle.sc_core.specs.declared.cause.Cause.{Cause}
 use Rattle.sc_core.specs.declared.cause.Cause.TheVariants as cause
 use Rattle.sc_core.specs.declared.value.Cell.{Cell}
 use Rattle.sc_core.specs.declared.value.Cell.TheVariants.{Undef, Word, Null, Ptr}
+use Rattle.sc_core.specs.declared.value.Value.TheVariants as value
 use Rattle.sc_blocks.specs.declared.fault.BlockFault.{BlockFault}
 use Rattle.sc_blocks.specs.declared.fault.BlockFault.TheVariants.{OutOfBounds, Dangling, NullUse, Indeterminate}
 
@@ -65,6 +68,21 @@ store_cell blocks (Ptr p) cell =
     bind (living (slice_get blocks p.block)) (λ block. bind (put_in block.cells p.index cell)
     (λ cells. Ok (slice_set blocks p.block (record block { cells = cells }))))
 store_cell blocks _ cell = Err cause.NullUse
+
+-- the blocks once a pointer was freed, or null
+abbrev pub free_cell : Blocks → Cell → Result Blocks Cause
+free_cell blocks (Ptr p) = bind (freed blocks (value.Ptr p)) (λ after. Ok (map given_back after))
+free_cell blocks Null = Ok blocks
+free_cell blocks _ = Err cause.BadType
+
+-- the blocks with one more, at a place of the zone, where there is one
+abbrev pub with_words : (words : ℕ) → Option ℕ → Blocks → Blocks
+with_words words None blocks = blocks
+with_words words (Some place) blocks = blocks ++ allocated_at place words ∷ []
+
+-- the least place from which `words` words of the zone are free
+abbrev pub free_place : Blocks → (words : ℕ) → Option ℕ
+free_place blocks words = least_free (spans_of blocks) words
 
 -- how many cells a block has, if it lives
 abbrev pub cell_count : Option Block → Option ℕ

@@ -1,13 +1,14 @@
 ghost use Rattle.std.specs.Prelude.{◌≡◌, ◌<◌, ◌^◌, ℕ, [], ◌∷◌, ◌++◌, length, replicate, IfOk, IfSome, OnOk, OnErr, Ok};
-ghost use Rattle.std.specs.Prelude.{Err, MatchResult, IsTrue, slice_get};
+ghost use Rattle.std.specs.Prelude.{Err, MatchResult, IsTrue, option_map, slice_get};
 ghost use Rattle.sc_core.specs.declared.value.Cell.TheVariants.{Undef};
 ghost use Rattle.sc_core.specs.Memory.{variable, with_blocks};
 ghost use Rattle.sc_blocks.specs.Rows.{memory_of, or_cause, cause_of, cleared, is_place, load_cell, store_cell};
-ghost use Rattle.sc_blocks.specs.Rows.{cell_count};
+ghost use Rattle.sc_blocks.specs.Rows.{cell_count, free_cell, free_place, with_words};
+ghost use Rattle.sc_core.specs.declared.cause.Cause.TheVariants as cause;
 
-use crate::BlockFault;
 use crate::cells::Cells;
 use crate::row::Row;
+use crate::{BadFree, BlockFault};
 use sc_base::OutOfMemory;
 use sc_core::{Cell, Pointer};
 use sc_event::CompId;
@@ -99,6 +100,47 @@ impl Blocks {
     {
         let cells = Cells::blank(self.alloc, count)?;
         self.add(comp, cells)
+    }
+
+    /// A new block of `words` cells in which nothing was stored yet, from the least place of the compartment's zone from
+    /// which they are free (C11 7.22.3.4). Its number; `None` where they are free from none, or are none.
+    pub fn allocate(&mut self, comp: CompId, words: u64) -> Result<Option<u64>, OutOfMemory>
+        requires { length (memory_of self.old comp) < 2 ^ 63 }
+        ensures number { IfOk result (λ number. number ≡
+            option_map (λ place. length (memory_of self.old comp)) (free_place (memory_of self.old comp) words)) }
+        ensures made { OnOk result (memory_of self.new ≡ with_blocks comp
+            (with_words words (free_place (memory_of self.old comp) words) (memory_of self.old comp))
+            (memory_of self.old)) }
+        ensures err { OnErr result (memory_of self.new ≡ memory_of self.old) }
+    {
+        self.make_row(comp)?;
+        let row = &mut self.rows[comp.number() as usize];
+        let number = row.len() as u64;
+        let some = row.allocate(self.alloc, words)?;
+        if !some {
+            return Ok(None);
+        }
+        Ok(Some(number))
+    }
+
+    /// Frees what a pointer is to, which is the start of an allocated block that lives (C11 7.22.3.3). Null is none, and
+    /// nothing is done.
+    pub fn free(&mut self, comp: CompId, pointer: Cell) -> Result<(), BadFree>
+        requires { IsTrue (is_place pointer) }
+        ensures value { MatchResult result
+            (λ _. free_cell (memory_of self.old comp) pointer ≡ Ok (memory_of self.new comp))
+            (λ _. free_cell (memory_of self.old comp) pointer ≡ Err cause.BadFree) }
+        ensures others { memory_of self.new ≡ with_blocks comp (memory_of self.new comp) (memory_of self.old) }
+        ensures err { OnErr result (memory_of self.new ≡ memory_of self.old) }
+    {
+        let Cell::Ptr(pointer) = pointer else {
+            return Ok(());
+        };
+        if comp.number() as usize >= self.rows.len() {
+            return Err(BadFree);
+        }
+        let row = &mut self.rows[comp.number() as usize];
+        row.free(pointer)
     }
 
     /// How many blocks the compartment ever had, which is the number of its next one.

@@ -16,3 +16,8 @@ pub enum BlockFault {
     #[error("Indeterminate")]
     Indeterminate,
 }
+
+/// What is freed is neither null nor the start of an allocated block that lives (C11 7.22.3.3).
+#[derive(Clone, Copy, Debug, PartialEq, Eq, Error)]
+#[error("BadFree")]
+pub struct BadFree;

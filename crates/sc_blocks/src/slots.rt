@@ -4,17 +4,19 @@ ghost use Rattle.std.specs.List.{HoldsAt, remove_range};
 ghost use Rattle.sc_blocks.specs.Cells.{stored_in};
 ghost use Rattle.sc_blocks.specs.Rows.{cause_of};
 ghost use Rattle.sc_core.specs.Memory.{variable};
-ghost use Rattle.sc_blocks.specs.Slots.{IsRising, cells_among, count_below};
+ghost use Rattle.sc_blocks.specs.Slots.{HasCells, IsRising, count_below, slot_among};
 
 use crate::BlockFault;
 use crate::cells::Cells;
 use sc_core::Cell;
 
-/// A block that lives: its number among those that its compartment ever had, and its cells.
+/// A block that lives: its number among those that its compartment ever had, its cells, and its place in the zone where
+/// it was allocated there.
 #[derive(Drop)]
 pub(crate) struct Slot {
     pub number: usize,
     pub cells: Cells,
+    pub place: Option<u32>,
 }
 
 /// The place of the block of a number, among blocks whose numbers rise. A variable of the call that runs stands as far
@@ -23,7 +25,7 @@ pub(crate) struct Slot {
 pub(crate) fn place_of(slots: &[Slot], number: usize) -> Option<usize>
     ensures within { IfSome result (λ place. place < length slots.now) }
     ensures found { MatchOption result
-        ((from made : ℕ) → IsRising from made slots.now → cells_among slots.now number ≡ None)
+        ((from made : ℕ) → IsRising from made slots.now → slot_among slots.now number ≡ None)
         (HoldsAt (λ slot. slot.number ≡ number) slots.now) }
 {
     if is_at(slots, number, number) {
@@ -58,12 +60,36 @@ fn is_at(slots: &[Slot], place: usize, number: usize) -> bool
 fn search(slots: &[Slot], number: usize) -> Option<usize>
     ensures within { IfSome result (λ place. place < length slots.now) }
     ensures found { MatchOption result
-        ((from made : ℕ) → IsRising from made slots.now → cells_among slots.now number ≡ None)
+        ((from made : ℕ) → IsRising from made slots.now → slot_among slots.now number ≡ None)
         (HoldsAt (λ slot. slot.number ≡ number) slots.now) }
 {
     match slots.binary_search_by_key(&number, |slot| slot.number) {
         Ok(place) => Some(place),
         Err(_) => None,
+    }
+}
+
+/// The cells of the block of a number.
+#[inline(always)]
+pub(crate) fn cells_in(slots: &[Slot], number: usize) -> Option<&Cells>
+    ensures { MatchOption result
+        ((from made : ℕ) → IsRising from made slots.now → slot_among slots.now number ≡ None)
+        (λ cells. (from made : ℕ) → IsRising from made slots.now → HasCells slots.now number cells.now) }
+{
+    match place_of(slots, number) {
+        Some(place) => Some(&slots[place].cells),
+        None => None,
+    }
+}
+
+/// How many blocks have a lower number, by halves.
+pub(crate) fn below(slots: &[Slot], number: usize) -> usize
+    ensures within { result ≤ length slots.now }
+    ensures count { (from made : ℕ) → IsRising from made slots.now → result ≡ count_below number slots.now }
+{
+    match slots.binary_search_by_key(&number, |slot| slot.number) {
+        Ok(place) => place,
+        Err(place) => place,
     }
 }
 
@@ -98,6 +124,8 @@ pub(crate) fn put(slot: &mut Slot, index: u32, cell: Cell) -> Result<(), BlockFa
         (λ _. stored_in (variable slot.old.cells) index cell ≡ Ok (variable slot.new.cells))
         (λ fault. stored_in (variable slot.old.cells) index cell ≡ Err (cause_of fault)) }
     ensures number { slot.new.number ≡ slot.old.number }
+    ensures place { slot.new.place ≡ slot.old.place }
+    ensures long { length slot.new.cells ≡ length slot.old.cells }
     ensures err { OnErr result (slot.new ≡ slot.old) }
 {
     if index >= slot.cells.len() {

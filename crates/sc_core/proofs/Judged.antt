@@ -18,3 +18,4 @@ judged_ty scope = expr_induction (λ e. (judged scope e).ty ≡ e.ty)
       of_layer t (term.Arrow a offset) = refl
       of_layer t (term.Deref a) = refl
       of_layer t (term.Address a) = refl
+      of_layer t (term.SizeOf cells) = refl

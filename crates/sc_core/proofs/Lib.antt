@@ -2,9 +2,11 @@ pub mod Common
 pub mod Induction
 pub mod Judged
 pub mod Keeping
+pub mod LaidSpans
 pub mod Layers
 pub mod Measures
 pub mod Plans
 pub mod Programs
 pub mod Rows
 pub mod Shapes
+pub mod Spans

@@ -27,6 +27,7 @@ term_height (term.Member base offset) = suc base
 term_height (term.Arrow base offset) = suc base
 term_height (term.Deref of) = suc of
 term_height (term.Address of) = suc of
+term_height (term.SizeOf cells) = 1
 
 abbrev pub expr_height : TypedExpr → ℕ
 expr_height = fold-TypedExpr ℕ ℕ term_height (λ e. e.kind)
@@ -35,11 +36,17 @@ expr_height = fold-TypedExpr ℕ ℕ term_height (λ e. e.kind)
 abbrev pub call_height : TypedCall → ℕ
 call_height call = highest (map expr_height call.args)
 
+abbrev pub count_height : Option TypedExpr → ℕ
+count_height None = 0
+count_height (Some count) = expr_height count
+
 -- the height of the highest part, 0 where a statement has none
 abbrev pub simple_height : TypedSimpleKind → ℕ
 simple_height (simple.Assign place value) = max (expr_height place) (expr_height value)
 simple_height (simple.AssignCall place call) = max (expr_height place) (call_height call)
 simple_height (simple.Call call) = call_height call
+simple_height (simple.Malloc place count cells) = max (expr_height place) (count_height count)
+simple_height (simple.Free pointer) = expr_height pointer
 
 abbrev pub part_height : Option TypedSimple → ℕ
 part_height None = 0
@@ -49,6 +56,8 @@ abbrev pub kind_height : TypedStmtKind-F ℕ ℕ → ℕ
 kind_height (layer.Assign place value) = max (expr_height place) (expr_height value)
 kind_height (layer.AssignCall place call) = max (expr_height place) (call_height call)
 kind_height (layer.Call call) = call_height call
+kind_height (layer.Malloc place count cells) = max (expr_height place) (count_height count)
+kind_height (layer.Free pointer) = expr_height pointer
 kind_height (layer.If cond first second) = max (expr_height cond) (max (highest first) (highest second))
 kind_height (layer.While cond body) = max (expr_height cond) (highest body)
 kind_height (layer.For first cond next body) = max (max (part_height first) (part_height next))

@@ -28,6 +28,7 @@ term_nodes (term.Member base offset) = suc base
 term_nodes (term.Arrow base offset) = suc base
 term_nodes (term.Deref of) = suc of
 term_nodes (term.Address of) = suc of
+term_nodes (term.SizeOf cells) = 1
 
 abbrev pub expr_nodes : TypedExpr → ℕ
 expr_nodes = fold-TypedExpr ℕ ℕ term_nodes (λ e. e.kind)
@@ -36,10 +37,16 @@ expr_nodes = fold-TypedExpr ℕ ℕ term_nodes (λ e. e.kind)
 abbrev pub call_nodes : TypedCall → ℕ
 call_nodes call = total (map expr_nodes call.args)
 
+abbrev pub count_nodes : Option TypedExpr → ℕ
+count_nodes None = 0
+count_nodes (Some count) = expr_nodes count
+
 abbrev pub simple_nodes : TypedSimpleKind → ℕ
 simple_nodes (simple.Assign place value) = suc (expr_nodes place + expr_nodes value)
 simple_nodes (simple.AssignCall place call) = suc (expr_nodes place + call_nodes call)
 simple_nodes (simple.Call call) = suc (call_nodes call)
+simple_nodes (simple.Malloc place count cells) = suc (expr_nodes place + count_nodes count)
+simple_nodes (simple.Free pointer) = suc (expr_nodes pointer)
 
 abbrev pub part_nodes : Option TypedSimple → ℕ
 part_nodes None = 0
@@ -51,6 +58,8 @@ kind_nodes layer.Empty = 1
 kind_nodes (layer.Assign place value) = suc (expr_nodes place + expr_nodes value)
 kind_nodes (layer.AssignCall place call) = suc (expr_nodes place + call_nodes call)
 kind_nodes (layer.Call call) = suc (call_nodes call)
+kind_nodes (layer.Malloc place count cells) = suc (expr_nodes place + count_nodes count)
+kind_nodes (layer.Free pointer) = suc (expr_nodes pointer)
 kind_nodes (layer.If cond first second) = suc (expr_nodes cond + total first + total second)
 kind_nodes (layer.While cond body) = suc (expr_nodes cond + total body)
 kind_nodes (layer.For first cond next body) = suc (part_nodes first + expr_nodes cond + part_nodes next + total body)

@@ -1,7 +1,7 @@
 -- What expressions give and what statements do, as folds of the typed trees (C11 6.5, 6.8).
 use Rattle.sc_core.specs.Common.{BinaryOp}
-use Rattle.std.specs.Prelude.{ℕ, pos, ◌+◌, Bool, ◌||◌, if◌then◌else◌, List, [], ◌∷◌, map, Option, None, Some, Result}
-use Rattle.std.specs.Prelude.{Ok}
+use Rattle.std.specs.Prelude.{ℕ, pos, ◌+◌, ◌*◌, ◌%◌, ◌^◌, Bool, ◌||◌, if◌then◌else◌, List, [], ◌∷◌, map, Option, None, Some}
+use Rattle.std.specs.Prelude.{Result, Ok}
 use Rattle.sc_core.specs.declared.cause.Cause.{Cause}
 use Rattle.sc_base.specs.declared.op.BinaryOp.TheVariants as op
 use Rattle.sc_core.specs.declared.ty.Ty.{Ty}
@@ -27,6 +27,7 @@ use Rattle.sc_core.specs.Value.{Arith, is_true, of_bool, moved, moved_on, moved_
 use Rattle.sc_core.specs.Types.{is_unsigned, is_array, is_pointer, target_cells}
 use Rattle.sc_core.specs.Combinators.{State, Here, Piece, and_then, computed, Next, Break, Continue, Return, Does}
 use Rattle.sc_core.specs.Combinators.{leave, stored, follow, in_order, all_do, loop, choose, Calls}
+use Rattle.sc_core.specs.Combinators.{elements_allocated, released}
 
 -- an expression's place or value, as it is wanted, in the blocks of its compartment
 abbrev pub Ways : Type 0
@@ -123,6 +124,16 @@ module _ (here : Here) where
     abbrev pub call_statement : CallTarget → List Ways → ℕ → Acts
     call_statement target args line a s = and_then (call target args line s) (λ result s. leave Next a s)
 
+  -- the count, then a block of as many elements of `cells` cells each, then the place, then the store
+  abbrev pub allocate_at : Ways → Ways → (cells line : ℕ) → Acts
+  allocate_at place count cells line a s =
+      and_then (evaluated want.Value count line s)
+      (λ v s. and_then (elements_allocated here v cells line s) (λ q s. store_at place q line a s))
+
+  -- the pointer, and then what it points to is freed
+  abbrev pub free_value : Ways → ℕ → Acts
+  free_value e line a s = and_then (evaluated want.Value e line s) (λ v s. released here v line a s)
+
 module _ (structs : List TypedStruct) where
   -- the operator between a pointer and an integer
   abbrev pub at_pointer : Blocks → BinaryOp → Ty → Ty → Value → Value → Result Value Cause
@@ -167,6 +178,7 @@ module _ (arith : Arith) (structs : List TypedStruct) where
         bind (a.way want.Value blocks) (moved blocks (pos offset)))
     term_step (term.Deref a) ty = at_place ty (a.way want.Value)
     term_step (term.Address a) ty = no_place (a.way want.Place)
+    term_step (term.SizeOf cells) ty = no_place (λ blocks. Ok (Word (4 * cells % 2 ^ 32)))
 
     abbrev pub meant : TypedExpr → Meant
     meant = fold-TypedExpr (Ty → Ways) Meant term_step meant_step
@@ -174,11 +186,18 @@ module _ (arith : Arith) (structs : List TypedStruct) where
     abbrev pub ways : TypedExpr → Ways
     ways e = (meant e).way
 
+    -- how many elements are allocated: one where no count stands
+    abbrev pub count_ways : Option TypedExpr → Ways
+    count_ways None = no_place (λ blocks. Ok (Word 1))
+    count_ways (Some e) = ways e
+
     module _ (calls : Calls) where
       abbrev pub simple_does : TypedSimpleKind → ℕ → Acts
       simple_does (simple.Assign place e) line = assign here (ways place) (ways e) line
       simple_does (simple.AssignCall place c) line = assign_call here calls (ways place) c.target (map ways c.args) line
       simple_does (simple.Call c) line = call_statement here calls c.target (map ways c.args) line
+      simple_does (simple.Malloc place count cells) line = allocate_at here (ways place) (count_ways count) cells line
+      simple_does (simple.Free e) line = free_value here (ways e) line
 
       -- a part in the head of a `for`, if it is there
       abbrev pub part_does : Option TypedSimple → Acts
@@ -192,6 +211,9 @@ module _ (arith : Arith) (structs : List TypedStruct) where
       kind_step (layer.AssignCall place c) line a s =
           assign_call here calls (ways place) c.target (map ways c.args) line a s
       kind_step (layer.Call c) line a s = call_statement here calls c.target (map ways c.args) line a s
+      kind_step (layer.Malloc place count cells) line a s =
+          allocate_at here (ways place) (count_ways count) cells line a s
+      kind_step (layer.Free e) line a s = free_value here (ways e) line a s
       kind_step (layer.If cond first second) line a s =
           and_then (evaluated here want.Value (ways cond) line s)
           (λ v s. choose v (all_do first a s) (all_do second a s))

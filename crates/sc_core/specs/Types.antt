@@ -23,6 +23,10 @@ is_pointer (ty.Pointer stars base) = true
 is_pointer (ty.Array stars base length) = true
 is_pointer _ = false
 
+-- cells of a variable, and of a struct
+abbrev pub most_cells : ℕ
+most_cells = 1048576
+
 abbrev pub struct_cells : Option TypedStruct → ℕ
 struct_cells None = 0
 struct_cells (Some s) = s.cells

@@ -1,7 +1,7 @@
 -- Which expressions and statements have their types (C11 6.5 to 6.8).
 use Rattle.sc_core.specs.Common.{BinaryOp, Import, Interfaces, Proto, Scalar, UnaryOp, all_hold, export_at}
 use Rattle.std.specs.Prelude.{ℕ, zero, suc, ◌-◌, ◌^◌, Bool, true, false, not, ◌&&◌, ◌||◌, ◌==◌, nat_lt, nat_le, List}
-use Rattle.std.specs.Prelude.{[], ◌∷◌, map, length, Option, None, Some, is_some, slice_get}
+use Rattle.std.specs.Prelude.{[], ◌∷◌, map, length, Option, None, Some, is_some, option_map, slice_get}
 use Rattle.std.specs.List.{list_any, list_all}
 use Rattle.sc_event.specs.declared.interface.Scalar.TheVariants as scalar
 use Rattle.sc_event.specs.declared.interface.Import.TheVariants as import
@@ -28,7 +28,7 @@ use Rattle.sc_core.specs.declared.section.TypedStruct.{TypedStruct}
 use Rattle.sc_core.specs.declared.section.TypedMember.{TypedMember}
 use Rattle.sc_core.specs.declared.section.TypedParam.{TypedParam}
 use Rattle.sc_core.specs.declared.section.TypedFunction.{TypedFunction}
-use Rattle.sc_core.specs.Types.{is_pointer}
+use Rattle.sc_core.specs.Types.{is_pointer, most_cells, target_cells}
 
 abbrev pub same_base : BaseTy → BaseTy → Bool
 same_base base.Int base.Int = true
@@ -208,6 +208,8 @@ module _ (scope : Scope) where
       place_judged t (is_address a && member_of scope (target (decayed a.ty)) offset t)
   term_judged (term.Deref a) t = place_judged t (is_address a && is_type (target (decayed a.ty)) t)
   term_judged (term.Address a) t = value_judged t (all_hold (a.fits ∷ a.place ∷ is_type (pointer_to a.ty) t ∷ []))
+  term_judged (term.SizeOf cells) t =
+      value_judged t (nat_le cells most_cells && same_ty t ty.Unsigned)
 
   abbrev pub judged : TypedExpr → Judged
   judged = fold-TypedExpr (Ty → Judged) Judged term_judged (λ e. e.kind e.ty)
@@ -299,6 +301,22 @@ is_target e = e.fits && e.place
 abbrev pub assign_fits : Judged → Judged → Bool
 assign_fits place e = is_target place && goes_into place.ty e
 
+-- the number of elements that are allocated, where it stands
+abbrev pub count_fits : Option Judged → Bool
+count_fits None = true
+count_fits (Some e) = is_int e
+
+-- a place for a pointer to elements of `cells` cells each, and how many of them are allocated (C11 7.22.3.4)
+abbrev pub malloc_fits : List TypedStruct → Judged → Option Judged → (cells : ℕ) → Bool
+malloc_fits structs place count cells =
+    all_hold (
+    is_target place ∷
+    is_some (target place.ty) ∷
+    (target_cells structs place.ty == cells) ∷
+    nat_le cells most_cells ∷
+    count_fits count ∷ []
+    )
+
 -- a value that is returned from a function with this result (C11 6.8.6.4)
 abbrev pub returned_fits : Option Ty → Judged → Bool
 returned_fits None e = false
@@ -326,6 +344,9 @@ module _ (scope : Scope) (callable : Callable) (result : Option Ty) where
   simple_fits (simple.AssignCall place c) =
       assign_call_fits callable (judged scope place) c.target (map (judged scope) c.args)
   simple_fits (simple.Call c) = call_fits callable c.target (map (judged scope) c.args)
+  simple_fits (simple.Malloc place count cells) =
+      malloc_fits scope.structs (judged scope place) (option_map (judged scope) count) cells
+  simple_fits (simple.Free e) = points (judged scope e)
 
   abbrev pub part_fits : Option TypedSimple → Bool
   part_fits None = true
@@ -338,6 +359,9 @@ module _ (scope : Scope) (callable : Callable) (result : Option Ty) where
   kind_fits (layer.AssignCall place c) looping =
       assign_call_fits callable (judged scope place) c.target (map (judged scope) c.args)
   kind_fits (layer.Call c) looping = call_fits callable c.target (map (judged scope) c.args)
+  kind_fits (layer.Malloc place count cells) looping =
+      malloc_fits scope.structs (judged scope place) (option_map (judged scope) count) cells
+  kind_fits (layer.Free e) looping = points (judged scope e)
   kind_fits (layer.If cond first second) looping =
       all_hold (
       is_scalar (judged scope cond) ∷

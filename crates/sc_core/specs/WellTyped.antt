@@ -21,16 +21,12 @@ use Rattle.sc_core.specs.declared.section.TypedFunction.{TypedFunction}
 use Rattle.sc_core.specs.declared.section.TypedSection.{TypedSection}
 use Rattle.sc_core.specs.declared.program.ProgramTree.{ProgramTree}
 use Rattle.sc_core.specs.Value.{truth}
-use Rattle.sc_core.specs.Types.{is_array, cells_of}
+use Rattle.sc_core.specs.Types.{is_array, cells_of, most_cells}
 use Rattle.sc_core.specs.Sizes.{nodes, total}
 use Rattle.sc_core.specs.Height.{expr_height, stmt_height}
 use Rattle.sc_core.specs.Meaning.{main_name}
 use Rattle.sc_core.specs.Typing.{Scope, Callable, Signature, signature_of, proto_signature, same_ty, body_fits}
 use Rattle.sc_core.specs.Typing.{init_fits}
-
--- cells of a variable, and of a struct
-abbrev pub most_cells : ℕ
-most_cells = 1048576
 
 -- nodes of a function
 abbrev pub most_nodes : ℕ

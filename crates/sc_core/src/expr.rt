@@ -51,6 +51,10 @@ pub enum TypedKind {
     Deref(Boxed<TypedExpr>),
     /// `&x`
     Address(Boxed<TypedExpr>),
+    /// `sizeof(int *)`: 4 times the cells of its type (C11 6.5.3.4)
+    SizeOf {
+        cells: u32,
+    },
 }
 
 /// Expressions in order, as the arguments of a call.

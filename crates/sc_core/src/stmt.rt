@@ -28,6 +28,14 @@ pub enum TypedStmtKind {
     },
     /// `f(e);`
     Call(TypedCall),
+    /// `x = malloc(e * sizeof(int));`, or without a count; one element has `cells` cells (C11 7.22.3.4).
+    Malloc {
+        place: TypedPlace,
+        count: Option<TypedExpr>,
+        cells: u32,
+    },
+    /// `free(e);` (C11 7.22.3.3); a literal of value 0 has the type `int *`.
+    Free(TypedExpr),
     /// `if (e) { .. } else { .. }`; without `else` the last part is empty.
     If {
         cond: TypedExpr,
@@ -72,9 +80,23 @@ pub struct TypedSimple {
 #[derive(Drop)]
 pub enum TypedSimpleKind {
     /// `x = e`
-    Assign { place: TypedPlace, value: TypedExpr },
+    Assign {
+        place: TypedPlace,
+        value: TypedExpr,
+    },
     /// `x = f(e)`
-    AssignCall { place: TypedPlace, call: TypedCall },
+    AssignCall {
+        place: TypedPlace,
+        call: TypedCall,
+    },
     /// `f(e)`
     Call(TypedCall),
+    /// `x = malloc(e * sizeof(int))`
+    Malloc {
+        place: TypedPlace,
+        count: Option<TypedExpr>,
+        cells: u32,
+    },
+    /// `free(e)`
+    Free(TypedExpr),
 }

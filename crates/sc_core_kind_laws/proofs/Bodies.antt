@@ -16,6 +16,7 @@ use Rattle.sc_core_kind_laws.proofs.Common.{simple_does, simple_fits, stmt_at, s
 use Rattle.sc_core_kind_laws.proofs.Common.{stmt_step, store, store_at, store_result, stored, subst, suc, sym}
 use Rattle.sc_core_kind_laws.proofs.Common.{target_signature, test, true, type_goes, values, variable_at, ways}
 use Rattle.sc_core_kind_laws.proofs.Common.{with_memory, ℕ, ◌&&◌, ◌∙◌, ◌∷◌, ◌≡◌}
+use Rattle.sc_core.specs.Prelude.{allocate_at, count_ways, elements_allocated, free_value, freed, released}
 use Rattle.sc_core.specs.declared.expr.TypedCall.{TypedCall}
 use Rattle.sc_core.specs.declared.expr.VarRef.TheVariants.{Local}
 use Rattle.sc_core.specs.declared.stmt.TypedStmt.{TypedStmt}
@@ -131,6 +132,29 @@ module _ (arith : Arith) (structs : List TypedStruct) (here : Here) (params : �
       (λ v s. store_at here place v line a s) (λ v s. store_at here place v line a s)
       (evaluated_itself want.Value e line s) (λ v any s. store_at_itself place v line a s)
 
+  allocate_at_itself : (place count : Ways) (cells line : ℕ) →
+      DoesSame (allocate_at here place count cells line) (allocate_at here place count cells line)
+  allocate_at_itself place count cells line a s =
+      then_same Any (ExitOk result) (evaluated here want.Value count line s) (evaluated here want.Value count line s)
+      (λ v s. and_then (elements_allocated here v cells line s) (λ q s. store_at here place q line a s))
+      (λ v s. and_then (elements_allocated here v cells line s) (λ q s. store_at here place q line a s))
+      (evaluated_itself want.Value count line s) (λ v any s.
+      then_same Any (ExitOk result) (elements_allocated here v cells line s) (elements_allocated here v cells line s)
+      (λ q s. store_at here place q line a s) (λ q s. store_at here place q line a s)
+      (itself (elements_allocated here v cells line s)) (λ q any s. store_at_itself place q line a s))
+
+  free_value_itself : (e : Ways) (line : ℕ) → DoesSame (free_value here e line) (free_value here e line)
+  free_value_itself e line a s =
+      then_same Any (ExitOk result) (evaluated here want.Value e line s) (evaluated here want.Value e line s)
+      (λ v s. released here v line a s) (λ v s. released here v line a s)
+      (evaluated_itself want.Value e line s) (λ v any s.
+      then_same Any (ExitOk result) (computed here line (freed (s.memory here.comp) v) s)
+      (computed here line (freed (s.memory here.comp) v) s)
+      (λ blocks s. leave Next a (with_memory here.comp blocks s))
+      (λ blocks s. leave Next a (with_memory here.comp blocks s))
+      (itself (computed here line (freed (s.memory here.comp) v) s))
+      (λ blocks any s. leave_same result Next refl a (with_memory here.comp blocks s)))
+
   test_itself : (cond : Ways) (line : ℕ) → DoesSame (test here cond line) (test here cond line)
   test_itself cond line a s =
       then_same Any (ExitOk result) (evaluated here want.Value cond line s) (evaluated here want.Value cond line s)
@@ -193,6 +217,9 @@ module _ (arith : Arith) (structs : List TypedStruct) (here : Here) (params : �
     simple_same (simple.Assign place e) line h = assign_itself (way place) (way e) line
     simple_same (simple.AssignCall place c) line h = assign_call_same place c h line
     simple_same (simple.Call c) line h = call_statement_same c h line
+    simple_same (simple.Malloc place count cells) line h =
+        allocate_at_itself (way place) (count_ways arith structs here params count) cells line
+    simple_same (simple.Free e) line h = free_value_itself (way e) line
 
     part_same : (part : Option TypedSimple) → part_fits scope callable result part ≡ true →
         DoesSame (part_does arith structs here params C part) (part_does arith structs here params D part)
@@ -266,6 +293,9 @@ module _ (arith : Arith) (structs : List TypedStruct) (here : Here) (params : �
     layer_same line (layer.Assign place e) h looping fits = assign_itself (way place) (way e) line
     layer_same line (layer.AssignCall place c) h looping fits = assign_call_same place c fits line
     layer_same line (layer.Call c) h looping fits = call_statement_same c fits line
+    layer_same line (layer.Malloc place count cells) h looping fits =
+        allocate_at_itself (way place) (count_ways arith structs here params count) cells line
+    layer_same line (layer.Free e) h looping fits = free_value_itself (way e) line
     layer_same line (layer.If cond x y) h looping fits = λ a s.
         let inner = and_rest (is_scalar (judged scope cond)) _ fits in
         then_same Any (ExitOk result) (evaluated here want.Value (way cond) line s)

@@ -14,6 +14,8 @@ use Rattle.sc_core_kind_laws.proofs.Common.{place_at, pointer_to, points, pos, r
 use Rattle.sc_core_kind_laws.proofs.Common.{same_types, slice_get, subst, suc, sum_fits, sym, target_cells, term_judged}
 use Rattle.sc_core_kind_laws.proofs.Common.{term_of, term_step, true, typed, unary_fits, variable_at, wanted, ways, ℕ}
 use Rattle.sc_core_kind_laws.proofs.Common.{ℤ, ◌&&◌, ◌-◌, ◌^◌, ◌||◌, ◌∙◌, ◌∷◌, ◌≡◌}
+use Rattle.std.specs.Prelude.{◌*◌, ◌%◌}
+use Rattle.sc_core.specs.Prelude.{most_cells}
 use Rattle.sc_word.specs.Prelude.{word_of}
 use Rattle.sc_base.specs.declared.op.UnaryOp.{UnaryOp}
 use Rattle.sc_base.specs.declared.op.UnaryOp.TheVariants as unary
@@ -527,6 +529,11 @@ module _ (arith : Arith) (structs : List TypedStruct) (here : Here) (params : �
       subst (λ p. HasKind p ((meant arith structs here params a).way want.Place blocks))
       (sym (reached_kind ja.ty t (and_rest ja.place _ (and_rest ja.fits _ fits))))
       (h.place (and_first ja.fits _ fits) (and_first ja.place _ (and_rest ja.fits _ fits)) blocks))
+  term_sound t (term.SizeOf cells) h =
+      value_sound (judged_at t (term.SizeOf cells)) (meant_at t (term.SizeOf cells)) refl refl (λ fits blocks.
+      subst (λ p. HasKind p (Ok (Word (4 * cells % 2 ^ 32))))
+      (sym (same_kind t ty.Unsigned (and_rest (nat_le cells most_cells) _ fits)))
+      (ok_kind false (Word (4 * cells % 2 ^ 32)) refl))
 
   pub sound : (e : TypedExpr) → IsSound e
   sound =

@@ -124,6 +124,7 @@ module _ (Soft : Cause → Type 0) where
             (moved blocks (pos offset)) (h.way want.Value blocks) (λ v. alike refl)) w blocks
         term_keeps ty (term.Deref a) h w blocks = place_keeps ty _ _ (λ blocks. h.way want.Value blocks) w blocks
         term_keeps ty (term.Address a) h w blocks = h.way want.Place blocks
+        term_keeps ty (term.SizeOf cells) h w blocks = alike refl
 
         expr_agrees : (e : TypedExpr) → Both e
         expr_agrees =

@@ -16,6 +16,7 @@ use Rattle.sc_core_laws.proofs.Common.{refl, roll-TypedStmtKind, rounds, run_by,
 use Rattle.sc_core_laws.proofs.Common.{slice_get, stmt_at, stmt_does, stmt_induction, stmt_nodes, stmt_step, store_at}
 use Rattle.sc_core_laws.proofs.Common.{store_result, subst, suc, sym, take, test, total, variable_at, variables, ways}
 use Rattle.sc_core_laws.proofs.Common.{zero, ℕ, ◌++◌, ◌+◌, ◌∙◌, ◌∷◌, ◌≡◌}
+use Rattle.sc_core.specs.Prelude.{allocate_at, count_in, count_ways, elements_allocated, free_value, freed}
 use Rattle.std.specs.Option.{option_map}
 use Rattle.std.proofs.lemmas.Option.{slice_get-map}
 use Rattle.sc_core.specs.declared.stmt.TypedSimpleKind.TheVariants as simple
@@ -131,6 +132,24 @@ module _ (here : Here) where
   assign_agree : (place e : Ways) (line other : ℕ) → DoesAgree (assign here place e line) (assign here place e other)
   assign_agree place e line other a s = grind arith
 
+  elements_agree : (v : Value) (cells line other : ℕ) (s : State) →
+      PiecesAgree (elements_allocated here v cells line s) (elements_allocated here v cells other s)
+  elements_agree v cells line other s =
+      then_agree _ _ _ _ (computed_agree here line other (count_in v) s) (λ count s. itself _)
+
+  allocate_at_agree : (place count : Ways) (cells line other : ℕ) →
+      DoesAgree (allocate_at here place count cells line) (allocate_at here place count cells other)
+  allocate_at_agree place count cells line other a s =
+      then_agree _ _ _ _ (given_agree want.Value count line other s)
+      (λ v s. then_agree _ _ _ _ (elements_agree v cells line other s)
+      (λ q s. store_at_agree place q line other a s))
+
+  free_value_agree : (e : Ways) (line other : ℕ) → DoesAgree (free_value here e line) (free_value here e other)
+  free_value_agree e line other a s =
+      then_agree _ _ _ _ (given_agree want.Value e line other s)
+      (λ v s. then_agree _ _ _ _ (computed_agree here line other (freed (s.memory here.comp) v) s)
+      (λ blocks s. itself _))
+
   test_agree : (e : Ways) (line other : ℕ) → DoesAgree (test here e line) (test here e other)
   test_agree e line other a s = then_agree _ _ _ _ (given_agree _ e line other s) (λ v s. itself _)
 
@@ -154,6 +173,10 @@ module _ (here : Here) where
           (λ result s. store_result_agree (ways arith structs here params place) result line other a s)
       simple_agree (simple.Call c) line other a s =
           then_agree _ _ _ _ (call_agree c.target (map _ c.args) line other s) (λ result s. itself _)
+      simple_agree (simple.Malloc place count cells) line other a s = allocate_at_agree
+          (ways arith structs here params place) (count_ways arith structs here params count) cells line other a s
+      simple_agree (simple.Free e) line other a s =
+          free_value_agree (ways arith structs here params e) line other a s
 
       part_agree : (part : Option TypedSimple) → DoesAgree (part_does arith structs here params C part)
           (part_does arith structs here params D (option_map (simple_lined line_of) part))
@@ -184,6 +207,9 @@ module _ (here : Here) where
       layer_agree line (layer.AssignCall place c) h a s =
           simple_agree (simple.AssignCall place c) line (line_of line) a s
       layer_agree line (layer.Call c) h a s = simple_agree (simple.Call c) line (line_of line) a s
+      layer_agree line (layer.Malloc place count cells) h a s =
+          simple_agree (simple.Malloc place count cells) line (line_of line) a s
+      layer_agree line (layer.Free e) h a s = simple_agree (simple.Free e) line (line_of line) a s
       layer_agree line (layer.If cond x y) h a s =
           then_agree _ _ _ _ (given_agree want.Value (ways arith structs here params cond) line (line_of line) s)
           (λ v s. choose_agree v _ _ _ _ (block_agree x h.0 a s) (block_agree y h.1 a s))

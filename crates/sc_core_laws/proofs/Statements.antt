@@ -11,11 +11,13 @@ use Rattle.sc_core_laws.proofs.Common.{part_does, refl, simple_does, slice_get, 
 use Rattle.sc_core_laws.proofs.Common.{stmt_induction, stmt_step, store_at, store_result, stored, subst, suc, sym, test}
 use Rattle.sc_core_laws.proofs.Common.{true, variable_at, ways, zero, ℕ, ◌∷◌, ◌≡◌}
 use Rattle.sc_core.specs.declared.expr.TypedCall.{TypedCall}
+use Rattle.sc_core.specs.Prelude.{allocate_at, and_then, count_ways, elements_allocated, free_value, released}
 use Rattle.sc_core.specs.declared.stmt.TypedStmtKind.TheOpen as layer
 use Rattle.sc_core.specs.declared.stmt.TypedSimpleKind.TheVariants as simple
 use Rattle.sc_core.specs.declared.value.Want.TheVariants as want
 use Rattle.sc_core_laws.proofs.InteractionTrees.{MatchWith, match_reached, match_then, match_computed, match_store}
 use Rattle.sc_core_laws.proofs.InteractionTrees.{match_call, match_if, match_leave, match_follow, match_all, match_loop}
+use Rattle.sc_core_laws.proofs.InteractionTrees.{match_elements, match_released}
 use Rattle.sc_core_laws.proofs.Expressions.{Keeps, alike, ArithKeeps, ways_keep, values_keep}
 
 module _ (Soft : Cause → Type 0) (here : Here) where
@@ -44,6 +46,22 @@ module _ (Soft : Cause → Type 0) (here : Here) where
       match_then Soft here _ _ (λ v by. store_at here place v line a) (λ v by. store_at here place' v line a)
       (given_matches _ e e' k line) (λ v. store_at_matches place place' h v line a)
 
+  allocate_at_matches : (place place' count count' : Ways) → WaysMatch place place' → WaysMatch count count' →
+      (cells line : ℕ) →
+      ActsMatch (λ by. allocate_at here place count cells line) (λ by. allocate_at here place' count' cells line)
+  allocate_at_matches place place' count count' h k cells line a = match_then Soft here _ _
+      (λ v by s. and_then (elements_allocated here v cells line s) (λ q s. store_at here place q line a s))
+      (λ v by s. and_then (elements_allocated here v cells line s) (λ q s. store_at here place' q line a s))
+      (given_matches _ count count' k line)
+      (λ v. match_then Soft here _ _ (λ q by. store_at here place q line a) (λ q by. store_at here place' q line a)
+      (match_elements Soft here v cells line) (λ q. store_at_matches place place' h q line a))
+
+  free_value_matches : (e e' : Ways) → WaysMatch e e' → (line : ℕ) →
+      ActsMatch (λ by. free_value here e line) (λ by. free_value here e' line)
+  free_value_matches e e' h line a =
+      match_then Soft here _ _ (λ v by. released here v line a) (λ v by. released here v line a)
+      (given_matches _ e e' h line) (λ v. match_released Soft here v line a)
+
   choose_matches : {V : Type 0} (v : Value) (f g f' g' : Doing V) → Match Soft here f g → Match Soft here f' g' →
       Match Soft here (λ by s. choose v (f by s) (f' by s)) (λ by s. choose v (g by s) (g' by s))
   choose_matches v f g f' g' h k = match_if Soft here _ f g f' g' h k
@@ -66,6 +84,11 @@ module _ (Soft : Cause → Type 0) (here : Here) where
     pub way_matches : (e : TypedExpr) → WaysMatch (ways ar structs here params e) (ways br structs here params e)
     way_matches e = ways_keep Soft ar br arith structs here params e
 
+    count_matches : (count : Option TypedExpr) →
+        WaysMatch (count_ways ar structs here params count) (count_ways br structs here params count)
+    count_matches None w blocks = alike refl
+    count_matches (Some e) w blocks = way_matches e w blocks
+
     -- arguments and a call with them
     abbrev args_by : Arith → TypedCall → List Ways
     args_by arith c = map (ways arith structs here params) c.args
@@ -85,6 +108,9 @@ module _ (Soft : Cause → Type 0) (here : Here) where
         (called_matches c line) (λ result. store_result_matches _ _ (way_matches place) result line a)
     simple_matches (simple.Call c) line a = match_then Soft here _ _ (λ result by. leave Next a)
         (λ result by. leave Next a) (called_matches c line) (λ result. leave_matches Next a)
+    simple_matches (simple.Malloc place count cells) line a =
+        allocate_at_matches _ _ _ _ (way_matches place) (count_matches count) cells line a
+    simple_matches (simple.Free e) line a = free_value_matches _ _ (way_matches e) line a
 
     pub part_matches : (part : Option TypedSimple) →
         ActsMatch (λ by. part_does ar structs here params by part) (λ by. part_does br structs here params by part)
@@ -117,6 +143,8 @@ module _ (Soft : Cause → Type 0) (here : Here) where
     layer_matches line (layer.Assign place e) h a = simple_matches (simple.Assign place e) line a
     layer_matches line (layer.AssignCall place c) h a = simple_matches (simple.AssignCall place c) line a
     layer_matches line (layer.Call c) h a = simple_matches (simple.Call c) line a
+    layer_matches line (layer.Malloc place count cells) h a = simple_matches (simple.Malloc place count cells) line a
+    layer_matches line (layer.Free e) h a = simple_matches (simple.Free e) line a
     layer_matches line (layer.If cond x y) h a = match_then Soft here _ _
         (λ v by s. choose v (block_does ar structs here params by x a s) (block_does ar structs here params by y a s))
         (λ v by s. choose v (block_does br structs here params by x a s) _)

@@ -21,6 +21,8 @@ module _ (line_of : ℕ → ℕ) where
   layer_lined (layer.Assign place value) = layer.Assign place value
   layer_lined (layer.AssignCall place call) = layer.AssignCall place call
   layer_lined (layer.Call call) = layer.Call call
+  layer_lined (layer.Malloc place count cells) = layer.Malloc place count cells
+  layer_lined (layer.Free pointer) = layer.Free pointer
   layer_lined (layer.If cond first second) = layer.If cond first second
   layer_lined (layer.While cond body) = layer.While cond body
   layer_lined (layer.For first cond next body) =

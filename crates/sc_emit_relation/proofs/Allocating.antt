@@ -27,10 +27,10 @@ use Rattle.sc_emit_relation.proofs.Access.{LivingBlock, alive, living_block}
 use Rattle.sc_emit_relation.proofs.Asking.{alloc_walks}
 use Rattle.sc_emit_relation.proofs.Coming.{came_by}
 use Rattle.sc_emit_relation.proofs.Frames.{get_back}
-use Rattle.sc_emit_relation.proofs.Laying.{IsTaken, is_taken, missed, span_of}
+use Rattle.sc_core.proofs.LaidSpans.{IsTaken, is_taken, missed, span_of}
 use Rattle.sc_emit_relation.proofs.Opening.{more_cell, no_cell}
 use Rattle.sc_emit_relation.proofs.Settling.{leads_rezoned, settled_rezoned}
-use Rattle.sc_emit_relation.proofs.Spans.{length_blank, misses_lying, spans_allocated}
+use Rattle.sc_core.proofs.Spans.{length_blank, misses_lying, spans_allocated}
 
 -- a word of the zone of a compartment with a heap is its data
 zone_data : (image : ImageParts) (c a : ℕ) → has_heap image c ≡ true → zone_start c ≤ a →

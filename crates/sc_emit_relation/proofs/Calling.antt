@@ -19,7 +19,8 @@ use Rattle.sc_emit_relation.proofs.Held.{held_at_entry}
 use Rattle.sc_emit_relation.proofs.Opening.{Prepared, above_guarded, blocks_opened, injection_grows, injection_opened}
 use Rattle.sc_emit_relation.proofs.Opening.{length_opened, lived_before, objects_placed, other_range, own_guarded}
 use Rattle.sc_emit_relation.proofs.Coming.{came_by}
-use Rattle.sc_emit_relation.proofs.Spans.{spans_begun, spans_elsewhere, spans_ended, zone_on}
+use Rattle.sc_core.proofs.Spans.{spans_begun, spans_ended}
+use Rattle.sc_emit_relation.proofs.Spans.{spans_elsewhere, zone_on}
 
 -- a call of a function that begins here, with its frame from this address on
 abbrev pub activated : Standpoint → Joint → FrameTree → (low ra_is : ℕ) → Activation

@@ -23,7 +23,8 @@ use Rattle.sc_zone.specs.declared.span.Span.{Span}
 use Rattle.sc_emit_relation.proofs.Access.{LivingBlock, alive, living_block}
 use Rattle.sc_emit_relation.proofs.Asking.{free_walks, null_walks}
 use Rattle.sc_emit_relation.proofs.Coming.{came_by}
-use Rattle.sc_emit_relation.proofs.Spans.{Lies, spans_elsewhere, spans_freed, starts_lying, zone_on}
+use Rattle.sc_core.proofs.Spans.{Lies, spans_freed, starts_lying}
+use Rattle.sc_emit_relation.proofs.Spans.{spans_elsewhere, zone_on}
 
 -- Blocks of which some have ended, and nothing else changed.
 

@@ -13,7 +13,6 @@ pub mod Freeing
 pub mod Functions
 pub mod Held
 pub mod Jumps
-pub mod Laying
 pub mod Lines
 pub mod Linking
 pub mod Loops

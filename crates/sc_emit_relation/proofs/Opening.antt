@@ -15,7 +15,7 @@ use Rattle.sc_emit_hart.proofs.Words.{stack_data, stack_owned}
 use Rattle.sc_emit_relation.proofs.Access.{LivingBlock, alive, living_block}
 use Rattle.sc_emit_relation.proofs.Frames.{get_back, object_inside, object_there, objects_apart, own_beside, own_inside}
 use Rattle.sc_emit_relation.proofs.Held.{Grows, stands_more}
-use Rattle.sc_emit_relation.proofs.Spans.{length_blank}
+use Rattle.sc_core.proofs.Spans.{length_blank}
 use Rattle.sc_emit_relation.proofs.Storing.{block_owned, in_cell}
 
 -- a word of other data lies outside a part of a stack

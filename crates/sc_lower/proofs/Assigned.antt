@@ -1,20 +1,21 @@
 -- Lowered code assigns each temporary before it reads it.
 use Rattle.sc_lower.proofs.Common.{Ahead, BinaryOp, Bool, Constant, Each, Global, Int, List, Local, Low, Lowered, Lows}
-use Rattle.sc_lower.proofs.Common.{None, Param, Reading, Some, TacOp, TacStmt, TacStmt-F, Ty, TypedExpr, TypedKind}
-use Rattle.sc_lower.proofs.Common.{TypedKind-F, TypedStruct, Under, VarRef, Want, [], and_code, and_first, and_from}
-use Rattle.sc_lower.proofs.Common.{and_rest, ap, at_place, between_op, binary, binary_code, constant_of, either, eq-eqb}
-use Rattle.sc_lower.proofs.Common.{eqb-true, everywhere, expr_at, expr_induction, false, false≢true, fold-TacStmt}
-use Rattle.sc_lower.proofs.Common.{fold-roll-TacStmt, from_first, from_one, from_two, if◌then◌else◌, inl, inr, is_array}
-use Rattle.sc_lower.proofs.Common.{is_pointer, is_unsigned_op, loaded, lone, lowered, lowered_step, map, map-TacStmt}
-use Rattle.sc_lower.proofs.Common.{member, move_op, not, not_op, or_code, or_right, place_code, reading, reading_step}
-use Rattle.sc_lower.proofs.Common.{refl, roll-TacStmt, row_first, row_fresh, scalar_in, subst, sym, target_cells}
-use Rattle.sc_lower.proofs.Common.{term_of, term_step, true, truth_code, unary_op, with_parts, ℕ, ◌&&◌, ◌++◌, ◌+◌, ◌==◌}
-use Rattle.sc_lower.proofs.Common.{◌||◌, ◌∙◌, ◌∷◌, ◌≡◌, ◌⊎◌}
+use Rattle.sc_lower.proofs.Common.{None, Option, Param, Reading, Some, TacOp, TacStmt, TacStmt-F, Ty, TypedExpr}
+use Rattle.sc_lower.proofs.Common.{TypedKind, TypedKind-F, TypedStruct, Under, VarRef, Want, [], allocation, and_code}
+use Rattle.sc_lower.proofs.Common.{and_first, and_from, and_rest, ap, at_place, between_op, binary, binary_code}
+use Rattle.sc_lower.proofs.Common.{constant_of, count_code, either, eq-eqb, eqb-true, everywhere, expr_at}
+use Rattle.sc_lower.proofs.Common.{expr_induction, false, false≢true, fold-TacStmt, fold-roll-TacStmt, from_first}
+use Rattle.sc_lower.proofs.Common.{from_one, from_two, if◌then◌else◌, inl, inr, is_array, is_pointer, is_unsigned_op}
+use Rattle.sc_lower.proofs.Common.{loaded, lone, lowered, lowered_step, map, map-TacStmt, member, move_op, not, not_op}
+use Rattle.sc_lower.proofs.Common.{or_code, or_right, place_code, reading, reading_step, refl, roll-TacStmt, row_first}
+use Rattle.sc_lower.proofs.Common.{row_fresh, scalar_in, size_of, subst, sym, target_cells, term_of, term_step, true}
+use Rattle.sc_lower.proofs.Common.{truth_code, unary_op, with_parts, ℕ, ◌&&◌, ◌++◌, ◌+◌, ◌==◌, ◌||◌, ◌∙◌, ◌∷◌, ◌≡◌, ◌⊎◌}
 use Rattle.sc_base.specs.declared.op.BinaryOp.TheVariants as op
 use Rattle.sc_base.specs.declared.op.UnaryOp.TheVariants as unary
 use Rattle.sc_core.specs.declared.expr.TypedKind.TheOpen as term
 use Rattle.sc_core.specs.declared.value.Want.TheVariants as want
 use Rattle.sc_tac.specs.declared.stmt.TacOp.TheVariants as tacop
+use Rattle.sc_tac.specs.declared.stmt.Constant.TheVariants as constant
 use Rattle.sc_tac.specs.declared.stmt.TacStmt.TheOpen as tac
 use Rattle.sc_tac.specs.declared.stmt.TacStmt.TheVariants as emit
 use Rattle.sc_tac.proofs.Induction.{Inside as CodeInside, stmt_induction as code_induction}
@@ -354,11 +355,27 @@ module _ (structs : List TypedStruct) where
     level ty (term.Arrow a offset) h w = place_settled ty w _ (member_settled offset _ (h want.Value))
     level ty (term.Deref a) h w = place_settled ty w _ (h want.Value)
     level ty (term.Address a) h w = h want.Place
+    level ty (term.SizeOf cells) h w = lone_settled _ (λ d. const_settles d (size_of cells))
 
     pub expr_settled : (e : TypedExpr) → P e
     expr_settled = expr_induction P (λ ty k h w.
         subst (λ l. Settled (l.form w)) (sym (expr_at _ _ (term_step structs params) lowered_step ty k))
         (level ty k h w))
+
+one_alloc : (cells d x : ℕ) → ReadsOne d x (emit.Alloc d x cells ∷ [])
+one_alloc cells d x b t ahead following h =
+    plain_reads t d (x == t || false) ahead.following (sym (first_one t (tac.Alloc d x cells) (emit.Alloc d x cells)
+    ahead (emit.rolls-Alloc d x cells)) ∙ h) (λ k. one_read x t k (λ e. inl e))
+    (λ g. further (following g) (λ a. inr a))
+
+-- a count, and then a block
+pub allocation_settled : (structs : List TypedStruct) (params : ℕ) (count : Option TypedExpr) (cells : ℕ) →
+    Settled (allocation (count_code structs params count) cells)
+allocation_settled structs params count cells =
+    one_settled (count_code structs params count) (λ d x. emit.Alloc d x cells) (one_alloc cells) (by count) where
+      by : (count : Option TypedExpr) → Settled (count_code structs params count)
+      by None = lone_settled (λ d. emit.Const d (constant.Word 1)) (λ d. const_settles d (constant.Word 1))
+      by (Some e) = expr_settled structs params e want.Value
 
 pub local_settled : (params k : ℕ) (ty : Ty) → Settled (at_place ty (lone (place_code params (Local k))) want.Place)
 local_settled params k ty =

@@ -3,19 +3,19 @@ use Rattle.sc_lower.proofs.Common.{Bool, Callable, Each, Global, Inside, List, L
 use Rattle.sc_lower.proofs.Common.{Ty, TypedCall, TypedExpr, TypedFunction, TypedKind, TypedKind-F, TypedLocal}
 use Rattle.sc_lower.proofs.Common.{TypedSimple, TypedSimpleKind, TypedStmt, TypedStmtKind, TypedStmtKind-F, Under}
 use Rattle.sc_lower.proofs.Common.{VarRef, [], address_fits, all_go_into, and_first, and_rest, ap, arith as numbers}
-use Rattle.sc_lower.proofs.Common.{assign_call_fits, assign_fits, beyond, body_fits, call_beyond, call_fits, expr_at}
-use Rattle.sc_lower.proofs.Common.{expr_beyond, expr_induction, false, false≢true, goes_into, if◌then◌else◌}
-use Rattle.sc_lower.proofs.Common.{init_beyond, init_fits, int_fits, is_address, is_int, is_scalar, is_target, is_type}
-use Rattle.sc_lower.proofs.Common.{judged, kind_beyond, kind_fits, layer_of, length, list_all, local_beyond}
-use Rattle.sc_lower.proofs.Common.{local_nodes, lt-ltb, map, most_nodes, part_beyond, part_fits, refl}
-use Rattle.sc_lower.proofs.Common.{returned_call_fits, signed, simple_beyond, simple_fits, stmt_at}
-use Rattle.sc_lower.proofs.Common.{stmt_beyond, stmt_fits, stmt_induction, subst, suc, target_signature, term_beyond}
-use Rattle.sc_lower.proofs.Common.{term_judged, term_of, total, true, variable_beyond, variable_ty, ℕ, ◌+◌, ◌∙◌, ◌∷◌}
-use Rattle.sc_lower.proofs.Common.{◌≡◌, ◌≤◌}
+use Rattle.sc_lower.proofs.Common.{assign_call_fits, assign_fits, beyond, body_fits, call_beyond, call_fits}
+use Rattle.sc_lower.proofs.Common.{count_beyond, count_fits, expr_at, expr_beyond, expr_induction, false, false≢true}
+use Rattle.sc_lower.proofs.Common.{goes_into, if◌then◌else◌, init_beyond, init_fits, int_fits, is_address, is_int}
+use Rattle.sc_lower.proofs.Common.{is_scalar, is_target, is_type, judged, kind_beyond, kind_fits, layer_of, length}
+use Rattle.sc_lower.proofs.Common.{list_all, local_beyond, local_nodes, lt-ltb, malloc_fits, map, most_nodes}
+use Rattle.sc_lower.proofs.Common.{option_map, part_beyond, part_fits, points, refl, returned_call_fits, signed}
+use Rattle.sc_lower.proofs.Common.{simple_beyond, simple_fits, stmt_at, stmt_beyond, stmt_fits, stmt_induction, subst}
+use Rattle.sc_lower.proofs.Common.{suc, target_signature, term_beyond, term_judged, term_of, total, true}
+use Rattle.sc_lower.proofs.Common.{variable_beyond, variable_ty, ℕ, ◌+◌, ◌∙◌, ◌∷◌, ◌≡◌, ◌≤◌}
 use Rattle.sc_core.specs.declared.expr.TypedKind.TheOpen as term
 use Rattle.sc_core.specs.declared.stmt.TypedStmtKind.TheOpen as layer
 use Rattle.sc_core.specs.declared.stmt.TypedSimpleKind.TheVariants as simple
-use Rattle.sc_lower.proofs.Tests.{both_fit, scalar_fits, typed_at, unary_fit}
+use Rattle.sc_lower.proofs.Tests.{both_fit, malloc_count, malloc_place, points_fits, scalar_fits, typed_at, unary_fit}
 use Rattle.sc_lower.proofs.Passing.{InitsFit, returned_value}
 
 none_of_two : (a b : ℕ) → a ≡ 0 → b ≡ 0 → a + b ≡ 0
@@ -57,6 +57,7 @@ module _ (scope : Scope) (few : length scope.locals ≤ most_nodes) where
       h (address_fits (judged scope a) (and_first (is_address (judged scope a)) _ fits))
   level t (term.Deref a) h fits = h (address_fits (judged scope a) (and_first (is_address (judged scope a)) _ fits))
   level t (term.Address a) h fits = h (and_first (judged scope a).fits _ fits)
+  level t (term.SizeOf cells) h fits = refl
 
   pub expr_near : (e : TypedExpr) → P e
   expr_near = expr_induction P (λ t k h fits.
@@ -103,10 +104,28 @@ module _ (scope : Scope) (few : length scope.locals ≤ most_nodes) where
     return_call_near (Some t) c h =
         call_near c (and_first (call_fits callable c.target (map (judged scope) c.args)) _ h)
 
+    count_near : (count : Option TypedExpr) → count_fits (option_map (judged scope) count) ≡ true →
+        count_beyond count ≡ 0
+    count_near None h = refl
+    count_near (Some e) h = expr_near e (int_fits (judged scope e) h)
+
+    malloc_near : (place : TypedExpr) (count : Option TypedExpr) (cells : ℕ) →
+        malloc_fits scope.structs (judged scope place) (option_map (judged scope) count) cells ≡ true →
+        expr_beyond place + count_beyond count ≡ 0
+    malloc_near place count cells h =
+        none_of_two (expr_beyond place) (count_beyond count)
+        (target_near place (malloc_place scope.structs (judged scope place) (option_map (judged scope) count) cells h))
+        (count_near count (malloc_count scope.structs (judged scope place) (option_map (judged scope) count) cells h))
+
+    free_near : (e : TypedExpr) → points (judged scope e) ≡ true → expr_beyond e ≡ 0
+    free_near e h = expr_near e (points_fits (judged scope e) h)
+
     simple_near : (k : TypedSimpleKind) → simple_fits scope callable result k ≡ true → simple_beyond k ≡ 0
     simple_near (simple.Assign place e) h = assign_near place e h
     simple_near (simple.AssignCall place c) h = assign_call_near place c h
     simple_near (simple.Call c) h = call_near c h
+    simple_near (simple.Malloc place count cells) h = malloc_near place count cells h
+    simple_near (simple.Free e) h = free_near e h
 
     part_near : (part : Option TypedSimple) → part_fits scope callable result part ≡ true → part_beyond part ≡ 0
     part_near None h = refl
@@ -137,6 +156,8 @@ module _ (scope : Scope) (few : length scope.locals ≤ most_nodes) where
     level_near line (layer.Assign place e) h looping fits = assign_near place e fits
     level_near line (layer.AssignCall place c) h looping fits = assign_call_near place c fits
     level_near line (layer.Call c) h looping fits = call_near c fits
+    level_near line (layer.Malloc place count cells) h looping fits = malloc_near place count cells fits
+    level_near line (layer.Free e) h looping fits = free_near e fits
     level_near line (layer.If cond x y) h looping fits =
         let inner = and_rest (is_scalar (judged scope cond)) _ fits in
         by _ _ _ (cond_near cond (and_first (is_scalar (judged scope cond)) _ fits))

@@ -6,9 +6,9 @@ use Rattle.sc_lower.proofs.Common.{between_op, binary, binary_code, constant_of,
 use Rattle.sc_lower.proofs.Common.{false, fold-roll-TacStmt, from_first, from_one, from_two, if◌then◌else◌, is_array}
 use Rattle.sc_lower.proofs.Common.{is_pointer, is_unsigned_op, loaded, lone, lowered, lowered_step, map-TacStmt}
 use Rattle.sc_lower.proofs.Common.{move_op, not_op, op_weight, or_code, place_code, roll-TacStmt, scalar_in, scalar_of}
-use Rattle.sc_lower.proofs.Common.{stmt_weight, subst, suc, sym, target_cells, term_nodes, term_of, term_step, true}
-use Rattle.sc_lower.proofs.Common.{truth_code, typed, unary_op, weight, weight_step, ℕ, ◌*◌, ◌++◌, ◌+◌, ◌<◌, ◌∙◌, ◌∷◌}
-use Rattle.sc_lower.proofs.Common.{◌≡◌, ◌≤◌}
+use Rattle.sc_lower.proofs.Common.{size_of, stmt_weight, subst, suc, sym, target_cells, term_nodes, term_of, term_step}
+use Rattle.sc_lower.proofs.Common.{true, truth_code, typed, unary_op, weight, weight_step, ℕ, ◌*◌, ◌++◌, ◌+◌, ◌<◌, ◌∙◌}
+use Rattle.sc_lower.proofs.Common.{◌∷◌, ◌≡◌, ◌≤◌}
 use Rattle.sc_base.specs.declared.op.BinaryOp.TheVariants as op
 use Rattle.sc_base.specs.declared.op.UnaryOp.TheVariants as unary
 use Rattle.sc_core.specs.declared.expr.TypedKind.TheOpen as term
@@ -41,7 +41,7 @@ AtMost c n = weight (c ∷ []) ≤ n
 pub at_most : (c : TacStmt) (n m : ℕ) → weight (c ∷ []) ≡ n → n ≤ m → AtMost c m
 at_most c n m is le = subst (λ x. x ≤ m) (sym is) le
 
-const_weight : (d : ℕ) (c : Constant) → AtMost (emit.Const d c) 5
+pub const_weight : (d : ℕ) (c : Constant) → AtMost (emit.Const d c) 5
 const_weight d c = at_most (emit.Const d c) 5 5 (weight_one (tac.Const d c) (emit.Const d c) (emit.rolls-Const d c))
     (omega numbers)
 
@@ -216,6 +216,9 @@ lone_rises make most = record {
 from_place : (l : Lows) (k : ℕ) → RisesPlace l k → Rises l k
 from_place l k h = record { above = h.above; below = h.below; few = h.few; light = λ n. omega (numbers, h.light n) }
 
+const_rises : (c : Constant) → Rises (lone (λ d. emit.Const d c)) 1
+const_rises c = from_place _ _ (lone_rises (λ d. emit.Const d c) (λ d. omega (numbers, const_weight d c)))
+
 further : (l : Lows) (k : ℕ) → Rises l k → Rises l (suc k)
 further l k h = record {
   above = h.above;
@@ -276,10 +279,7 @@ module _ (structs : List TypedStruct) where
 
     level : (ty : Ty) (k : TypedKind-F TypedKind TypedExpr) → Under P k → (w : Want) →
         Rises (term_of _ _ (term_step structs params) lowered_step k ty w) (term_of _ _ term_nodes (λ e. e.kind) k)
-    level ty (term.Literal word) h w =
-        from_place _ _ (lone_rises (λ d. emit.Const d (constant_of ty word)) (λ d. by d)) where
-          by : (d : ℕ) → AtMost (emit.Const d (constant_of ty word)) 6
-          by d = omega (numbers, const_weight d (constant_of ty word))
+    level ty (term.Literal word) h w = const_rises (constant_of ty word)
     level ty (term.Variable v) h w = place_rises ty w _ _ (lone_rises (place_code params v) (place_weight params v))
     level ty (term.Unary o a) h w =
         from_place _ _ (one_rises _ (λ d x. emit.Op d (unary_op o (lowered structs params a).ty) x None)
@@ -295,6 +295,7 @@ module _ (structs : List TypedStruct) where
         place_rises ty w _ _ (one_rises _ _ _ (λ d x. op_at_most d (tacop.PointerMember offset) x None) (h want.Value))
     level ty (term.Deref a) h w = place_rises ty w _ _ (as_place _ _ (h want.Value))
     level ty (term.Address a) h w = further _ _ (h want.Place)
+    level ty (term.SizeOf cells) h w = const_rises (size_of cells)
 
     pub expr_rises : (e : TypedExpr) → P e
     expr_rises = expr_induction P (λ ty k h w.

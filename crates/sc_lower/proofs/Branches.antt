@@ -3,19 +3,19 @@ use Rattle.sc_lower.proofs.Common.{BinaryOp, Bool, CallTarget, Constant, Each, F
 use Rattle.sc_lower.proofs.Common.{KeepsBranches, List, Local, Low, Lowered, Lows, Many, None, Option, Param, Part}
 use Rattle.sc_lower.proofs.Common.{Parts, Some, TacOp, TacStmt, TacStmt-F, Ty, TypedCall, TypedExpr, TypedKind}
 use Rattle.sc_lower.proofs.Common.{TypedKind-F, TypedLocal, TypedSimple, TypedSimpleKind, TypedStmt, TypedStmtKind}
-use Rattle.sc_lower.proofs.Common.{TypedStmtKind-F, TypedStruct, Under, VarRef, Want, [], after, and_code, ap}
-use Rattle.sc_lower.proofs.Common.{arith as numbers, assign, at_place, between_op, binary, binary_code, block_code}
-use Rattle.sc_lower.proofs.Common.{both, call_branches, call_code, call_for, call_statement, constant_of, cycle}
-use Rattle.sc_lower.proofs.Common.{expr_at, expr_branches, expr_induction, false, first_of, fold-roll-TacStmt, forms}
-use Rattle.sc_lower.proofs.Common.{from_first, from_one, from_two, ifs, ifs_step, if◌then◌else◌, in_turn, init_branches}
-use Rattle.sc_lower.proofs.Common.{init_code, inits_code, is_array, is_pointer, is_unsigned_op, just, kind_branches}
-use Rattle.sc_lower.proofs.Common.{kind_step, layer_of, length, loaded, local_branches, lone, lowered, lowered_step}
-use Rattle.sc_lower.proofs.Common.{many, map, map-TacStmt, member, move_op, not_op, on_line, op_branches, or_code}
-use Rattle.sc_lower.proofs.Common.{part_branches, part_code, place_code, refl, return_value, roll-TacStmt, scalar_in}
-use Rattle.sc_lower.proofs.Common.{simple_branches, simple_code, stmt_at, stmt_branches, stmt_code, stmt_ifs}
-use Rattle.sc_lower.proofs.Common.{stmt_induction, store_at, subst, suc, sym, target_cells, term_branches, term_of}
-use Rattle.sc_lower.proofs.Common.{term_step, test, total, true, truth_code, typed, unary_op, ℕ, ◌++◌, ◌+◌, ◌∙◌, ◌∷◌}
-use Rattle.sc_lower.proofs.Common.{◌≡◌}
+use Rattle.sc_lower.proofs.Common.{TypedStmtKind-F, TypedStruct, Under, VarRef, Want, [], after, allocate_at}
+use Rattle.sc_lower.proofs.Common.{allocation, and_code, ap, arith as numbers, assign, at_place, between_op, binary}
+use Rattle.sc_lower.proofs.Common.{binary_code, block_code, both, call_branches, call_code, call_for, call_statement}
+use Rattle.sc_lower.proofs.Common.{constant_of, count_branches, count_code, cycle, expr_at, expr_branches}
+use Rattle.sc_lower.proofs.Common.{expr_induction, false, first_of, fold-roll-TacStmt, forms, free_value, from_first}
+use Rattle.sc_lower.proofs.Common.{from_one, from_two, ifs, ifs_step, if◌then◌else◌, in_turn, init_branches, init_code}
+use Rattle.sc_lower.proofs.Common.{inits_code, is_array, is_pointer, is_unsigned_op, just, kind_branches, kind_step}
+use Rattle.sc_lower.proofs.Common.{layer_of, length, loaded, local_branches, lone, lowered, lowered_step, many, map}
+use Rattle.sc_lower.proofs.Common.{map-TacStmt, member, move_op, not_op, on_line, op_branches, or_code, part_branches}
+use Rattle.sc_lower.proofs.Common.{part_code, place_code, refl, return_value, roll-TacStmt, scalar_in, simple_branches}
+use Rattle.sc_lower.proofs.Common.{simple_code, size_of, stmt_at, stmt_branches, stmt_code, stmt_ifs, stmt_induction}
+use Rattle.sc_lower.proofs.Common.{store_at, subst, suc, sym, target_cells, term_branches, term_of, term_step, test}
+use Rattle.sc_lower.proofs.Common.{total, true, truth_code, typed, unary_op, ℕ, ◌++◌, ◌+◌, ◌∙◌, ◌∷◌, ◌≡◌}
 use Rattle.sc_lower.specs.Prelude.{HasBranches, branches, lowered_function, lowered_program, lowered_sections}
 use Rattle.sc_event.specs.declared.interface.Interfaces.{Interfaces}
 use Rattle.sc_core.specs.declared.program.ProgramTree.{ProgramTree}
@@ -31,6 +31,7 @@ use Rattle.sc_core.specs.declared.stmt.TypedStmtKind.TheOpen as layer
 use Rattle.sc_core.specs.declared.stmt.TypedSimpleKind.TheVariants as simple
 use Rattle.sc_core.specs.declared.value.Want.TheVariants as want
 use Rattle.sc_core.proofs.Induction.{everywhere}
+use Rattle.sc_tac.specs.declared.stmt.Constant.TheVariants as constant
 use Rattle.sc_tac.specs.declared.stmt.TacOp.TheVariants as tacop
 use Rattle.sc_tac.specs.declared.stmt.TacStmt.TheOpen as tac
 use Rattle.sc_tac.specs.declared.stmt.TacStmt.TheVariants as emit
@@ -216,6 +217,7 @@ module _ (structs : List TypedStruct) where
     level ty (term.Deref a) h w n = place_has ty w ((lowered structs params a).form want.Value) (expr_branches a)
         (h want.Value) n
     level ty (term.Address a) h w n = h want.Place n
+    level ty (term.SizeOf cells) h w n = const_without n (size_of cells)
 
     expr_has : (e : TypedExpr) → P e
     expr_has = expr_induction P (λ ty k h w.
@@ -246,6 +248,24 @@ assign_has f e k j hf he n = after_has (e want.Value) (store_at f) j k he (λ at
       turned : (a b : ℕ) → a + b ≡ b + a
       turned a b = omega numbers
 
+alloc_without : (d x cells : ℕ) → Without (emit.Alloc d x cells)
+alloc_without d x cells = ifs_one (tac.Alloc d x cells) (emit.Alloc d x cells) (emit.rolls-Alloc d x cells)
+
+free_without : (at : ℕ) → Without (emit.Free at)
+free_without at = ifs_one (tac.Free at) (emit.Free at) (emit.rolls-Free at)
+
+allocate_has : (f : Forms) (a : Lows) (cells k j : ℕ) → Has (f want.Place) k → Has a j →
+    PartHas (allocate_at f a cells) (k + j)
+allocate_has f a cells k j hf ha n =
+    after_has (allocation a cells) (store_at f) j k (one_has a (λ d x. emit.Alloc d x cells) j
+    (λ d x. alloc_without d x cells) ha) (λ at. store_has f k at hf) n ∙ turned j k where
+      turned : (a b : ℕ) → a + b ≡ b + a
+      turned a b = omega numbers
+
+free_has : (f : Forms) (k : ℕ) → Has (f want.Value) k → PartHas (free_value f) k
+free_has f k h n =
+    same_sum _ k 0 (after_has (f want.Value) (λ at. just (emit.Free at ∷ [])) k 0 h (λ at n. free_without at) n)
+
 call_without : (to : CallTarget) (dest : Option ℕ) (at : List ℕ) → Without (call_code to dest at)
 call_without (target.Own f) dest at =
     ifs_one (tac.CallOwn dest f at) (emit.CallOwn dest f at) (emit.rolls-CallOwn dest f at)
@@ -267,6 +287,17 @@ module _ (structs : List TypedStruct) (params : ℕ) where
 
   target_has : (e : TypedExpr) → Has (form e want.Place) (expr_branches e)
   target_has e = expr_has structs params e want.Place
+
+  count_has : (count : Option TypedExpr) → Has (count_code structs params count) (count_branches count)
+  count_has None n = const_without n (constant.Word 1)
+  count_has (Some e) n = value_has e n
+
+  malloc_has : (place : TypedExpr) (count : Option TypedExpr) (cells : ℕ) →
+      PartHas (allocate_at (form place) (count_code structs params count) cells)
+      (expr_branches place + count_branches count)
+  malloc_has place count cells =
+      allocate_has (form place) (count_code structs params count) cells (expr_branches place) (count_branches count)
+      (target_has place) (count_has count)
 
   many_has : (es : List TypedExpr) (n : ℕ) → ifs (many (map form es) n).code ≡ total (map expr_branches es)
   many_has [] n = refl
@@ -315,6 +346,8 @@ module _ (structs : List TypedStruct) (params : ℕ) where
       call_for_has c (store_at (form place)) (expr_branches place) (λ d. store_has (form place) (expr_branches place) d
       (target_has place)) n
   simple_has (simple.Call c) n = call_statement_has c n
+  simple_has (simple.Malloc place count cells) n = malloc_has place count cells n
+  simple_has (simple.Free e) n = free_has (form e) (expr_branches e) (value_has e) n
 
   part_has : (part : Option TypedSimple) → PartHas (part_code structs params part) (part_branches part)
   part_has None n = refl
@@ -339,6 +372,8 @@ module _ (structs : List TypedStruct) (params : ℕ) where
       call_for_has c (store_at (form place)) (expr_branches place) (λ d. store_has (form place) (expr_branches place) d
       (target_has place)) n
   level_has line (layer.Call c) h n = call_statement_has c n
+  level_has line (layer.Malloc place count cells) h n = malloc_has place count cells n
+  level_has line (layer.Free e) h n = free_has (form e) (expr_branches e) (value_has e) n
   level_has line (layer.If cond x y) h n =
       let a : Low = form cond want.Value n in
       let p : Part = block_code structs params x a.next in

@@ -3,8 +3,8 @@ pub use Rattle.std.proofs.Common.{Bool, Err, IfOk, List, None, Ok, Option, Resul
 pub use Rattle.std.proofs.Common.{arith, bytes_eq, codes, cond, drop, drop-cons, eq-eqb, eqb-true, false, get_or}
 pub use Rattle.std.proofs.Common.{if◌then◌else◌, inl, inr, is_some, le-leb, leb-true, length, length-append, lt-ltb}
 pub use Rattle.std.proofs.Common.{ltb-false, ltb-true, map, nat_le, nat_lt, not, pos, position, refl, slice_get}
-pub use Rattle.std.proofs.Common.{slice_index_or, subst, suc, sym, true, zero, ℕ, ◌&&◌, ◌*◌, ◌++◌, ◌+◌, ◌-◌, ◌<◌, ◌==◌}
-pub use Rattle.std.proofs.Common.{◌^◌, ◌||◌, ◌∙◌, ◌∷◌, ◌≡◌, ◌≤◌, ◌⊎◌}
+pub use Rattle.std.proofs.Common.{slice_index_or, subst, suc, sym, true, zero, ℕ, ◌%◌, ◌&&◌, ◌*◌, ◌++◌, ◌+◌, ◌-◌, ◌<◌}
+pub use Rattle.std.proofs.Common.{◌==◌, ◌^◌, ◌||◌, ◌∙◌, ◌∷◌, ◌≡◌, ◌≤◌, ◌⊎◌}
 pub use Rattle.std.proofs.lemmas.Bool.{and_from, false≢true, not-true, or_from, or_left, or_right}
 pub use Rattle.std.proofs.lemmas.List.{length-map}
 pub use Rattle.std.proofs.lemmas.Option.{slice_get-map, slice_get_read}
@@ -35,36 +35,37 @@ pub use Rattle.sc_core.proofs.Shapes.{lines_are, lines_do, part, stmts, way, way
 pub use Rattle.sc_core.specs.Prelude.{Acts, Arith, Blocks, Body, Break, Callable, Calls, Continue, Denotations, Exit}
 pub use Rattle.sc_core.specs.Prelude.{Function, Here, IsWellTyped, Judged, Left, Meant, Next, On, Piece, Reached}
 pub use Rattle.sc_core.specs.Prelude.{Return, Roles, Route, Scope, Signature, State, Step, Stopped, Ways, acts, all_do}
-pub use Rattle.sc_core.specs.Prelude.{all_go_into, allowed, and_then, applied, applied_one, are_distinct, are_equatable}
-pub use Rattle.sc_core.specs.Prelude.{are_ordered, args_fit, asks, assign_call, assign_call_fits, assign_fits, at_brace}
-pub use Rattle.sc_core.specs.Prelude.{at_pointer, back_cross, back_own, base_cells, base_within, begun, between}
-pub use Rattle.sc_core.specs.Prelude.{binary_fits, bind, block_does, body_does, body_fits, both_ints, c_arith, call}
-pub use Rattle.sc_core.specs.Prelude.{call_cross, call_fits, call_nodes, call_own, callable_in, called, calls, cells_of}
-pub use Rattle.sc_core.specs.Prelude.{choose, closed, common, computed, crossed, crossing, decayed, deepest}
-pub use Rattle.sc_core.specs.Prelude.{denotations_of, difference_fits, done, emit_event, entry_in, export_fits}
-pub use Rattle.sc_core.specs.Prelude.{expr_nodes, first_blocks, first_state, follow, found, frame_bound, function}
-pub use Rattle.sc_core.specs.Prelude.{function_fits, function_of, functions_in, global_fits, globals_of, goes_into}
-pub use Rattle.sc_core.specs.Prelude.{has_member, import_fits, import_name, in_loop, in_order, init_does, init_fits}
-pub use Rattle.sc_core.specs.Prelude.{init_nodes, inits_do, interface_fits, is_address, is_array, is_int, is_integer}
-pub use Rattle.sc_core.specs.Prelude.{is_main, is_number, is_plain_name, is_pointer, is_scalar, is_target, is_true}
-pub use Rattle.sc_core.specs.Prelude.{is_type, is_unsigned, is_unsigned_op, is_well_typed, is_word, judged, kind_fits}
-pub use Rattle.sc_core.specs.Prelude.{kind_nodes, leads, leave, literal, literal_fits, load, local_fits, local_nodes}
-pub use Rattle.sc_core.specs.Prelude.{loop, main_fits, main_name, mains_in, may_call, meaning, meant, meant_step}
-pub use Rattle.sc_core.specs.Prelude.{member_of, members_fit, most_cells, most_compartments, most_exports, most_nodes}
-pub use Rattle.sc_core.specs.Prelude.{most_params, moved, moved_back, moved_on, nodes, of_bool, on_words, option_goes}
-pub use Rattle.sc_core.specs.Prelude.{option_signature, option_value, part_does, part_fits, part_nodes, passed_fits}
-pub use Rattle.sc_core.specs.Prelude.{performs, place_named, place_of_export, pointer_to, points, proto_signature}
-pub use Rattle.sc_core.specs.Prelude.{result_fits, result_goes, result_ty, returned_call_fits, returned_fits, roles_in}
-pub use Rattle.sc_core.specs.Prelude.{rounds, rows_left, run_by, run_in, run_of, run_step, same_base, same_import}
-pub use Rattle.sc_core.specs.Prelude.{same_pointers, same_results, same_signature, same_ty, same_types, scalar_ty}
-pub use Rattle.sc_core.specs.Prelude.{scope_of, scripted_run_of, scripted_step, section_fits, sections_fit}
-pub use Rattle.sc_core.specs.Prelude.{signature_of, simple_does, simple_fits, simple_nodes, starred, starred_cells}
-pub use Rattle.sc_core.specs.Prelude.{starred_within, stmt_fits, stmt_nodes, stmt_step, stopped_at, store, store_result}
-pub use Rattle.sc_core.specs.Prelude.{stored, struct_cells, struct_fits, structs_fit, sum_fits, take, target}
-pub use Rattle.sc_core.specs.Prelude.{target_cells, target_signature, term_judged, term_nodes, total, truth, turn}
-pub use Rattle.sc_core.specs.Prelude.{turn_of, type_goes, type_within, unary_fits, values, variable_at, variable_fits}
-pub use Rattle.sc_core.specs.Prelude.{variable_ty, variables, wanted, ways, with_memory, within, word_back, word_in}
-pub use Rattle.sc_core.specs.Prelude.{wrapping}
+pub use Rattle.sc_core.specs.Prelude.{all_go_into, allocated, allowed, and_then, applied, applied_one, are_distinct}
+pub use Rattle.sc_core.specs.Prelude.{are_equatable, are_ordered, args_fit, asks, assign_call, assign_call_fits}
+pub use Rattle.sc_core.specs.Prelude.{assign_fits, at_brace, at_pointer, back_cross, back_own, base_cells, base_within}
+pub use Rattle.sc_core.specs.Prelude.{begun, between, binary_fits, bind, block_does, body_does, body_fits, both_ints}
+pub use Rattle.sc_core.specs.Prelude.{c_arith, call, call_cross, call_fits, call_nodes, call_own, callable_in, called}
+pub use Rattle.sc_core.specs.Prelude.{calls, cells_of, choose, closed, common, computed, count_fits, count_in}
+pub use Rattle.sc_core.specs.Prelude.{count_nodes, count_ways, crossed, crossing, decayed, deepest, denotations_of}
+pub use Rattle.sc_core.specs.Prelude.{difference_fits, done, elements_allocated, emit_event, entry_in, export_fits}
+pub use Rattle.sc_core.specs.Prelude.{expr_nodes, first_blocks, first_state, follow, found, frame_bound, freed}
+pub use Rattle.sc_core.specs.Prelude.{function, function_fits, function_of, functions_in, global_fits, globals_of}
+pub use Rattle.sc_core.specs.Prelude.{goes_into, has_member, import_fits, import_name, in_loop, in_order, init_does}
+pub use Rattle.sc_core.specs.Prelude.{init_fits, init_nodes, inits_do, interface_fits, is_address, is_array, is_int}
+pub use Rattle.sc_core.specs.Prelude.{is_integer, is_main, is_number, is_plain_name, is_pointer, is_scalar, is_target}
+pub use Rattle.sc_core.specs.Prelude.{is_true, is_type, is_unsigned, is_unsigned_op, is_well_typed, is_word, judged}
+pub use Rattle.sc_core.specs.Prelude.{kind_fits, kind_nodes, leads, leave, literal, literal_fits, load, local_fits}
+pub use Rattle.sc_core.specs.Prelude.{local_nodes, loop, main_fits, main_name, mains_in, malloc_fits, may_call, meaning}
+pub use Rattle.sc_core.specs.Prelude.{meant, meant_step, member_of, members_fit, most_cells, most_compartments}
+pub use Rattle.sc_core.specs.Prelude.{most_exports, most_nodes, most_params, moved, moved_back, moved_on, nodes}
+pub use Rattle.sc_core.specs.Prelude.{of_bool, on_words, option_goes, option_signature, option_value, part_does}
+pub use Rattle.sc_core.specs.Prelude.{part_fits, part_nodes, passed_fits, performs, place_named, place_of_export}
+pub use Rattle.sc_core.specs.Prelude.{pointer_to, points, proto_signature, released, result_fits, result_goes}
+pub use Rattle.sc_core.specs.Prelude.{result_ty, returned_call_fits, returned_fits, roles_in, rounds, rows_left, run_by}
+pub use Rattle.sc_core.specs.Prelude.{run_in, run_of, run_step, same_base, same_import, same_pointers, same_results}
+pub use Rattle.sc_core.specs.Prelude.{same_signature, same_ty, same_types, scalar_ty, scope_of, scripted_run_of}
+pub use Rattle.sc_core.specs.Prelude.{scripted_step, section_fits, sections_fit, signature_of, simple_does, simple_fits}
+pub use Rattle.sc_core.specs.Prelude.{simple_nodes, starred, starred_cells, starred_within, stmt_fits, stmt_nodes}
+pub use Rattle.sc_core.specs.Prelude.{stmt_step, stopped_at, store, store_result, stored, struct_cells, struct_fits}
+pub use Rattle.sc_core.specs.Prelude.{structs_fit, sum_fits, take, target, target_cells, target_signature, term_judged}
+pub use Rattle.sc_core.specs.Prelude.{term_nodes, total, truth, turn, turn_of, type_goes, type_within, unary_fits}
+pub use Rattle.sc_core.specs.Prelude.{values, variable_at, variable_fits, variable_ty, variables, wanted, ways}
+pub use Rattle.sc_core.specs.Prelude.{with_memory, within, word_back, word_in, wrapping}
 pub use Rattle.sc_core.specs.declared.cause.Cause.{Cause}
 pub use Rattle.sc_core.specs.declared.cause.Cause.TheVariants.{BadType, NoReturn, Overflow}
 pub use Rattle.sc_core.specs.declared.expr.CallTarget.{CallTarget}
@@ -117,16 +118,17 @@ pub use Rattle.sc_lower.specs.Common.{ObjectPlace, Op, Param, ProgramTree, TacSt
 pub use Rattle.sc_lower.specs.Common.{TypedFunction, TypedKind-F, TypedLocal, TypedSection, TypedSimple}
 pub use Rattle.sc_lower.specs.Common.{TypedSimpleKind, TypedStmt, TypedStmtKind-F, TypedStruct, VarRef, fold-TacStmt}
 pub use Rattle.sc_lower.specs.Prelude.{AreFunctions, Forms, IsLowerable, IsOperands, KeepsBranches, KeepsMeaning}
-pub use Rattle.sc_lower.specs.Prelude.{KeepsRules, Low, Lowered, Lows, Many, Part, Parts, after, and_code, assign}
-pub use Rattle.sc_lower.specs.Prelude.{at_place, between_op, beyond, binary, binary_code, block_code, body_code, both}
-pub use Rattle.sc_lower.specs.Prelude.{call_beyond, call_branches, call_code, call_for, call_statement, code_of}
-pub use Rattle.sc_lower.specs.Prelude.{constant_of, cycle, entry_of, export_called, exports_of, expr_beyond}
-pub use Rattle.sc_lower.specs.Prelude.{expr_branches, first_of, fork, forms, fragment_of, from_first, from_one}
-pub use Rattle.sc_lower.specs.Prelude.{from_two, ifs, ifs_step, in_turn, init_beyond, init_branches, init_code}
-pub use Rattle.sc_lower.specs.Prelude.{inits_code, just, kind_beyond, kind_branches, kind_step, loaded, local_beyond}
-pub use Rattle.sc_lower.specs.Prelude.{local_branches, lone, lowered, lowered_function, lowered_program}
-pub use Rattle.sc_lower.specs.Prelude.{lowered_section, lowered_sections, lowered_step, many, member, move_op, not_op}
-pub use Rattle.sc_lower.specs.Prelude.{op_branches, or_code, part_beyond, part_branches, part_code, place_code}
-pub use Rattle.sc_lower.specs.Prelude.{return_value, scalar_in, scalar_of, simple_beyond, simple_branches, simple_code}
+pub use Rattle.sc_lower.specs.Prelude.{KeepsRules, Low, Lowered, Lows, Many, Part, Parts, after, allocate_at}
+pub use Rattle.sc_lower.specs.Prelude.{allocation, and_code, assign, at_place, between_op, beyond, binary, binary_code}
+pub use Rattle.sc_lower.specs.Prelude.{block_code, body_code, both, call_beyond, call_branches, call_code, call_for}
+pub use Rattle.sc_lower.specs.Prelude.{call_statement, code_of, constant_of, count_beyond, count_branches, count_code}
+pub use Rattle.sc_lower.specs.Prelude.{cycle, entry_of, export_called, exports_of, expr_beyond, expr_branches, first_of}
+pub use Rattle.sc_lower.specs.Prelude.{fork, forms, fragment_of, free_value, from_first, from_one, from_two, ifs}
+pub use Rattle.sc_lower.specs.Prelude.{ifs_step, in_turn, init_beyond, init_branches, init_code, inits_code, just}
+pub use Rattle.sc_lower.specs.Prelude.{kind_beyond, kind_branches, kind_step, loaded, local_beyond, local_branches}
+pub use Rattle.sc_lower.specs.Prelude.{lone, lowered, lowered_function, lowered_program, lowered_section}
+pub use Rattle.sc_lower.specs.Prelude.{lowered_sections, lowered_step, many, member, move_op, not_op, op_branches}
+pub use Rattle.sc_lower.specs.Prelude.{or_code, part_beyond, part_branches, part_code, place_code, return_value}
+pub use Rattle.sc_lower.specs.Prelude.{scalar_in, scalar_of, simple_beyond, simple_branches, simple_code, size_of}
 pub use Rattle.sc_lower.specs.Prelude.{stmt_beyond, stmt_branches, stmt_code, stmt_ifs, store_at, term_beyond}
 pub use Rattle.sc_lower.specs.Prelude.{term_branches, term_step, test, truth_code, unary_op, values_of, variable_beyond}

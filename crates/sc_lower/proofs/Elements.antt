@@ -251,6 +251,8 @@ module _ (count : ℕ) where
         let j = judged scope a in
         place_known t _ (λ fit. target_known j.ty t (address_known j h (and_first (is_address j) _ fit))
         (and_rest (is_address j) _ fit))
+    level t (term.SizeOf cells) h =
+        value_known t _ (λ fit. same_known t ty.Unsigned (and_rest (nat_le cells most_cells) _ fit))
     level t (term.Address a) h =
         let j = judged scope a in
         value_known t _ (λ fit.

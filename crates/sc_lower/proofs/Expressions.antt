@@ -11,8 +11,8 @@ use Rattle.sc_lower.proofs.Common.{is_int, is_of, is_pointer, is_true, is_unsign
 use Rattle.sc_lower.proofs.Common.{literal, load, loaded, lone, lowered, lowered_step, meant, meant_step, member}
 use Rattle.sc_lower.proofs.Common.{move_op, moved, not, not_op, of_bool, on_words, operated, or_code, place_code, pos}
 use Rattle.sc_lower.proofs.Common.{refl, scalar_in, sound, start_of, subst, sym, target_cells, term_judged, term_of}
-use Rattle.sc_lower.proofs.Common.{term_step, true, truth_code, typed, unary_op, variable_at, wanted, ℕ, ◌+◌, ◌<◌, ◌||◌}
-use Rattle.sc_lower.proofs.Common.{◌∙◌, ◌∷◌, ◌≡◌, ◌≤◌}
+use Rattle.sc_lower.proofs.Common.{term_step, true, truth_code, typed, unary_op, variable_at, wanted, ℕ, ◌%◌, ◌*◌, ◌+◌}
+use Rattle.sc_lower.proofs.Common.{◌<◌, ◌^◌, ◌||◌, ◌∙◌, ◌∷◌, ◌≡◌, ◌≤◌}
 use Rattle.sc_core.specs.Prelude.{at_place as place_way, binary as binary_way, term_step as term_way}
 use Rattle.sc_base.specs.declared.op.BinaryOp.TheVariants as op
 use Rattle.sc_base.specs.declared.op.UnaryOp.TheVariants as unary
@@ -241,6 +241,12 @@ module _ (arith : Arith) (here : Here) (calls : Calls) where
       (tac.ObjectPlace n (params + l)) (ObjectPlace n (params + l)) t s (rolls-ObjectPlace n (params + l)))
       (gets_gives arith here calls n n t s (Ok (start_of (here.first + (params + l)))) (omega numbers)))
 
+  -- a constant word
+  pub word_computes : (word : ℕ) → Computes (lone (λ d. Const d (constant.Word word))) (λ blocks. Ok (Word word))
+  word_computes word =
+      lone_computes (λ d. Const d (constant.Word word)) (λ blocks. Ok (Word word)) (λ n t s. const_gives n n
+      (constant.Word word) t s (omega numbers))
+
   literal_is : (ty : Ty) (word : ℕ) → constant_value (constant_of ty word) ≡ literal ty word
   literal_is ty word = by (is_pointer ty) where
     by : (b : Bool) → constant_value (if b then constant.Null else constant.Word word) ≡ (if b then Null else Word word)
@@ -412,6 +418,7 @@ module _ (arith : Arith) (here : Here) (calls : Calls) where
           let j = judged scope a in
           place_computes ty w _ _ ((h (address_fits j (and_first (is_address j) _ fits))).form want.Value)
       level ty (term.Address a) h fits w = (h (and_first (judged scope a).fits _ fits)).form want.Place
+      level ty (term.SizeOf cells) h fits w = word_computes (4 * cells % 2 ^ 32)
 
       pub expr_fits : (e : TypedExpr) → P e
       expr_fits = expr_induction P (λ ty k h fits.

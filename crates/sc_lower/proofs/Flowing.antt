@@ -2,30 +2,31 @@
 use Rattle.sc_lower.proofs.Common.{Ahead, Bool, CallTarget, Callable, Each, Forms, Inside, List, Local, Low, Lows, Many}
 use Rattle.sc_lower.proofs.Common.{None, Option, Part, Parts, Scope, Some, TacStmt, Ty, TypedCall, TypedExpr}
 use Rattle.sc_lower.proofs.Common.{TypedLocal, TypedSimple, TypedSimpleKind, TypedStmt, TypedStmtKind, TypedStmtKind-F}
-use Rattle.sc_lower.proofs.Common.{TypedStruct, [], after, all_assigned_first, all_go_into, and_first, and_from}
-use Rattle.sc_lower.proofs.Common.{and_rest, ap, assign, assign_call_fits, assign_fits, at_place, block_code, body_fits}
-use Rattle.sc_lower.proofs.Common.{both, call_code, call_fits, call_for, call_statement, cycle, false, false≢true}
-use Rattle.sc_lower.proofs.Common.{first_of, fork, forms, goes_into, in_turn, init_code, init_fits, inits_code, inl}
-use Rattle.sc_lower.proofs.Common.{inr, is_assigned_first, is_one, is_scalar, is_target, is_type, judged, just}
-use Rattle.sc_lower.proofs.Common.{kind_fits, kind_step, layer_of, length, list_all, lone, many, map, not}
-use Rattle.sc_lower.proofs.Common.{nothing_ahead, or_left, or_right, part_ahead, part_code, part_fits, place_code, refl}
-use Rattle.sc_lower.proofs.Common.{result_goes, return_value, returned_call_fits, signed, simple_code, simple_fits}
-use Rattle.sc_lower.proofs.Common.{stmt_at, stmt_code, stmt_fits, stmt_induction, store_at, subst, suc, sym}
-use Rattle.sc_lower.proofs.Common.{target_signature, test as tests, true, variable_ty, zero, ℕ, ◌&&◌, ◌==◌, ◌||◌, ◌∙◌}
-use Rattle.sc_lower.proofs.Common.{◌∷◌, ◌≡◌, ◌⊎◌}
+use Rattle.sc_lower.proofs.Common.{TypedStruct, [], after, all_assigned_first, all_go_into, allocate_at, allocation}
+use Rattle.sc_lower.proofs.Common.{and_first, and_from, and_rest, ap, assign, assign_call_fits, assign_fits, at_place}
+use Rattle.sc_lower.proofs.Common.{block_code, body_fits, both, call_code, call_fits, call_for, call_statement}
+use Rattle.sc_lower.proofs.Common.{count_code, cycle, false, false≢true, first_of, fork, forms, free_value, goes_into}
+use Rattle.sc_lower.proofs.Common.{in_turn, init_code, init_fits, inits_code, inl, inr, is_assigned_first, is_one}
+use Rattle.sc_lower.proofs.Common.{is_scalar, is_target, is_type, judged, just, kind_fits, kind_step, layer_of, length}
+use Rattle.sc_lower.proofs.Common.{list_all, lone, malloc_fits, many, map, not, nothing_ahead, option_map, or_left}
+use Rattle.sc_lower.proofs.Common.{or_right, part_ahead, part_code, part_fits, place_code, points, refl, result_goes}
+use Rattle.sc_lower.proofs.Common.{return_value, returned_call_fits, signed, simple_code, simple_fits, stmt_at}
+use Rattle.sc_lower.proofs.Common.{stmt_code, stmt_fits, stmt_induction, store_at, subst, suc, sym, target_signature}
+use Rattle.sc_lower.proofs.Common.{test as tests, true, variable_ty, zero, ℕ, ◌&&◌, ◌==◌, ◌||◌, ◌∙◌, ◌∷◌, ◌≡◌, ◌⊎◌}
 use Rattle.sc_core.specs.declared.expr.CallTarget.TheVariants as target
 use Rattle.sc_core.specs.declared.stmt.TypedStmtKind.TheOpen as layer
 use Rattle.sc_core.specs.declared.stmt.TypedSimpleKind.TheVariants as simple
 use Rattle.sc_core.specs.declared.value.Want.TheVariants as want
 use Rattle.sc_tac.specs.declared.stmt.TacStmt.TheOpen as tac
 use Rattle.sc_tac.specs.declared.stmt.TacStmt.TheVariants as emit
-use Rattle.sc_lower.proofs.Tests.{scalar_fits, all_append, PointsToElements}
+use Rattle.sc_lower.proofs.Tests.{PointsToElements, all_append, malloc_count, malloc_place, points_fits, scalar_fits}
 use Rattle.sc_lower.proofs.Passing.{returned_value, InitsFit}
 use Rattle.sc_lower.proofs.Statements.{Shaped, shaped, not_output, goes_promised}
-use Rattle.sc_lower.proofs.Strays.{value_straight, target_straight, is_straight, Straight, local_straight}
-use Rattle.sc_lower.proofs.Assigned.{first, fresh, first_append, fresh_append, first_one, fresh_one, straight_fresh}
-use Rattle.sc_lower.proofs.Assigned.{plain_reads, only_reads, no_reads, one_read, two_read, Settled, into, out_of}
-use Rattle.sc_lower.proofs.Assigned.{if_reads, expr_settled, local_settled}
+use Rattle.sc_lower.proofs.Strays.{Straight, allocation_straight, is_straight, local_straight, target_straight}
+use Rattle.sc_lower.proofs.Strays.{value_straight}
+use Rattle.sc_lower.proofs.Assigned.{Settled, allocation_settled, expr_settled, first, first_append, first_one, fresh}
+use Rattle.sc_lower.proofs.Assigned.{fresh_append, fresh_one, if_reads, into, local_settled, no_reads, one_read}
+use Rattle.sc_lower.proofs.Assigned.{only_reads, out_of, plain_reads, straight_fresh, two_read}
 
 never : (c : Bool) → (c ≡ true → false ≡ true) → c ≡ false
 never true h = sym (h refl)
@@ -130,6 +131,15 @@ store_steady f hf straight = record {
 assign_steady : (f e : Forms) → Settled (f want.Place) → ((n : ℕ) → Straight (f want.Place n).code) →
     Settled (e want.Value) → ((n : ℕ) → Straight (e want.Value n).code) → Steady (assign f e)
 assign_steady f e hf sf he se = after_steady (e want.Value) (store_at f) he se (store_steady f hf sf)
+
+free_steady : SteadyWith (λ at. just (emit.Free at ∷ []))
+free_steady = record {
+  keeps = λ at n t b ahead allows g.
+      only_reads (at == t || false) ahead.following
+      (sym (first_one t (tac.Free at) (emit.Free at) ahead (emit.rolls-Free at)) ∙ g)
+      (λ k. one_read at t k (λ e. inl e)) (λ k. inr (allows.following k));
+  fresh = λ at n t ahead none. fresh_one t (tac.Free at) (emit.Free at) ahead (emit.rolls-Free at) refl;
+}
 
 -- CALLS
 abbrev Later : ℕ → Option ℕ → Type 0 → Type 0
@@ -385,11 +395,30 @@ module _ (scope : Scope) (callable : Callable) (result : Option Ty) (structs : L
       (store_steady (form place) (expr_settled structs params place want.Place)
       (target_straight scope structs elements place (and_first (is_target (judged scope place)) _ h)))
 
+  malloc_steady : (place : TypedExpr) (count : Option TypedExpr) (cells : ℕ) →
+      malloc_fits scope.structs (judged scope place) (option_map (judged scope) count) cells ≡ true →
+      Steady (allocate_at (form place) (count_code structs params count) cells)
+  malloc_steady place count cells h =
+      let j = judged scope place in
+      let counts = option_map (judged scope) count in
+      after_steady (allocation (count_code structs params count) cells) (store_at (form place))
+      (allocation_settled structs params count cells)
+      (allocation_straight scope structs elements count cells (malloc_count scope.structs j counts cells h))
+      (store_steady (form place) (expr_settled structs params place want.Place)
+      (target_straight scope structs elements place (malloc_place scope.structs j counts cells h)))
+
+  freed_steady : (e : TypedExpr) → points (judged scope e) ≡ true → Steady (free_value (form e))
+  freed_steady e h =
+      after_steady (form e want.Value) (λ at. just (emit.Free at ∷ [])) (expr_settled structs params e want.Value)
+      (value_straight scope structs elements e (points_fits (judged scope e) h)) free_steady
+
   simple_steady : (k : TypedSimpleKind) → simple_fits scope callable result k ≡ true →
       Steady (simple_code structs params k)
   simple_steady (simple.Assign place e) h = assigned_steady place e h
   simple_steady (simple.AssignCall place c) h = assign_call_steady place c h
   simple_steady (simple.Call c) h = call_statement_steady c h
+  simple_steady (simple.Malloc place count cells) h = malloc_steady place count cells h
+  simple_steady (simple.Free e) h = freed_steady e h
 
   part_steady : (part : Option TypedSimple) → part_fits scope callable result part ≡ true →
       Steady (part_code structs params part)
@@ -428,6 +457,8 @@ module _ (scope : Scope) (callable : Callable) (result : Option Ty) (structs : L
   level line (layer.Assign place e) h looping fits = assigned_steady place e fits
   level line (layer.AssignCall place c) h looping fits = assign_call_steady place c fits
   level line (layer.Call c) h looping fits = call_statement_steady c fits
+  level line (layer.Malloc place count cells) h looping fits = malloc_steady place count cells fits
+  level line (layer.Free e) h looping fits = freed_steady e fits
   level line (layer.If cond x y) h looping fits =
       let inner = and_rest (is_scalar (judged scope cond)) _ fits in
       after_steady (form cond want.Value) (fork (block_code structs params x) (block_code structs params y))

@@ -9,6 +9,7 @@ pub mod Expressions
 pub mod Flowing
 pub mod Gives
 pub mod HeadRows
+pub mod HeapRows
 pub mod Hollow
 pub mod Lowered
 pub mod Lowering

@@ -1,7 +1,8 @@
--- Code in the making, and the code of an operator by that of its operands.
+-- Code in the making, and the code of an operator and of a body by that of their parts.
 use Rattle.sc_lower.proofs.Common.{BinaryOp, IfOk, IsOperands, List, Lowered, Many, Part, Result, TacStmt, TypedExpr}
-use Rattle.sc_lower.proofs.Common.{TypedStruct, Want, ap, binary, code_of, expr_at, forms, lowered, lowered_step, subst}
-use Rattle.sc_lower.proofs.Common.{sym, term_step, ℕ, ◌++◌, ◌∙◌, ◌≡◌}
+use Rattle.sc_lower.proofs.Common.{TypedFunction, TypedLocal, TypedStruct, Want, ap, binary, block_code, body_code}
+use Rattle.sc_lower.proofs.Common.{both, code_of, expr_at, forms, fragment_of, in_turn, inits_code, length, lowered}
+use Rattle.sc_lower.proofs.Common.{lowered_step, subst, sym, term_step, ℕ, ◌++◌, ◌∙◌, ◌≡◌}
 use Rattle.sc_lower.specs.declared.calls.Values.{Values}
 use Rattle.sc_core.specs.declared.expr.TypedExpr.{fold-roll-TypedExpr}
 use Rattle.sc_core.specs.declared.expr.TypedKind.TheOpen as term
@@ -17,6 +18,23 @@ values_after stmts at rest = record { stmts = stmts ++ rest.code; at = at ++ res
 -- code that is there already, and more after it
 abbrev pub fragment_after : List TacStmt → Part → Fragment
 fragment_after stmts rest = record { stmts = stmts ++ rest.code; next = rest.next }
+
+-- one fragment after another
+abbrev joined : Fragment → Fragment → Fragment
+joined first rest = record { stmts = first.stmts ++ rest.stmts; next = rest.next }
+
+-- the code of initialisers, and of statements after them, is that of the body
+pub body_lowered : {E : Type 0} (structs : List TypedStruct) (f : TypedFunction) (params : ℕ)
+    (locals : List TypedLocal) (inits body : Fragment) (result : Result Fragment E) → params ≡ length f.params →
+    locals ≡ f.locals → inits ≡ fragment_of (in_turn (inits_code structs params 0 locals) 0) →
+    body ≡ fragment_of (block_code structs params f.body inits.next) → IfOk result (λ made. made ≡ joined inits body) →
+    IfOk result (λ made. made ≡ fragment_of (body_code structs f 0))
+body_lowered structs f params locals inits body result counted same before following h =
+    subst (λ whole. IfOk result (λ made. made ≡ whole))
+    (ap (λ rest. joined inits rest) following
+    ∙ ap (λ first. joined first (fragment_of (block_code structs params f.body first.next))) before
+    ∙ (λ i. fragment_of (both (in_turn (inits_code structs (counted i) 0 (same i))) (block_code structs (counted i)
+    f.body) 0))) h
 
 module _ (structs : List TypedStruct) (params : ℕ) where
   pub lowered_ty : (e : TypedExpr) → (lowered structs params e).ty ≡ e.ty

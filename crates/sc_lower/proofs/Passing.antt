@@ -2,25 +2,29 @@
 use Rattle.sc_lower.proofs.Common.{Bool, CallTarget, Callable, Each, Forms, Inside, Judged, List, Local, Low, Lows}
 use Rattle.sc_lower.proofs.Common.{Many, None, Option, Part, Parts, Scope, Signature, Signed, Some, TacStmt, TacStmt-F}
 use Rattle.sc_lower.proofs.Common.{Ty, TypedCall, TypedExpr, TypedLocal, TypedSimple, TypedSimpleKind, TypedStmt}
-use Rattle.sc_lower.proofs.Common.{TypedStmtKind, TypedStmtKind-F, TypedStruct, [], after, all_go_into, and_first}
-use Rattle.sc_lower.proofs.Common.{and_from, and_rest, ap, arith as numbers, assign, assign_call_fits}
-use Rattle.sc_lower.proofs.Common.{assign_fits, at_place, block_code, body_fits, both, call_code, call_fits, call_for}
-use Rattle.sc_lower.proofs.Common.{call_statement, cycle, everywhere, false, false≢true, first_of, fork, forms}
-use Rattle.sc_lower.proofs.Common.{goes_into, in_turn, init_code, init_fits, inits_code, is_scalar, is_some, is_target}
-use Rattle.sc_lower.proofs.Common.{is_type, judged, just, kind_fits, kind_step, layer_of, length, list_all, lone, many}
-use Rattle.sc_lower.proofs.Common.{map, not, option_goes, part_code, part_fits, place_code, refl, result_goes}
-use Rattle.sc_lower.proofs.Common.{return_value, returned_call_fits, returned_fits, signed, simple_code, simple_fits}
-use Rattle.sc_lower.proofs.Common.{stmt_at, stmt_code, stmt_fits, stmt_induction, store_at, subst, suc, sym}
-use Rattle.sc_lower.proofs.Common.{target_signature, test as tests, true, variable_ty, ℕ, ◌<◌, ◌∙◌, ◌∷◌, ◌≡◌, ◌≤◌}
+use Rattle.sc_lower.proofs.Common.{TypedStmtKind, TypedStmtKind-F, TypedStruct, [], after, all_go_into, allocate_at}
+use Rattle.sc_lower.proofs.Common.{allocation, and_first, and_from, and_rest, ap, arith as numbers, assign}
+use Rattle.sc_lower.proofs.Common.{assign_call_fits, assign_fits, at_place, block_code, body_fits, both, call_code}
+use Rattle.sc_lower.proofs.Common.{call_fits, call_for, call_statement, count_code, count_fits, cycle, everywhere}
+use Rattle.sc_lower.proofs.Common.{false, false≢true, first_of, fork, forms, free_value, goes_into, in_turn, init_code}
+use Rattle.sc_lower.proofs.Common.{init_fits, inits_code, int_fits, is_scalar, is_some, is_target, is_type, judged}
+use Rattle.sc_lower.proofs.Common.{just, kind_fits, kind_step, layer_of, length, list_all, lone, malloc_fits, many, map}
+use Rattle.sc_lower.proofs.Common.{most_cells, nat_le, not, option_goes, option_map, part_code, part_fits, place_code}
+use Rattle.sc_lower.proofs.Common.{points, refl, result_goes, return_value, returned_call_fits, returned_fits, signed}
+use Rattle.sc_lower.proofs.Common.{simple_code, simple_fits, stmt_at, stmt_code, stmt_fits, stmt_induction, store_at}
+use Rattle.sc_lower.proofs.Common.{subst, suc, sym, target_signature, test as tests, true, variable_ty, ℕ, ◌<◌, ◌∙◌}
+use Rattle.sc_lower.proofs.Common.{◌∷◌, ◌≡◌, ◌≤◌}
 use Rattle.sc_core.specs.declared.expr.CallTarget.TheVariants as target
 use Rattle.sc_core.specs.declared.stmt.TypedStmtKind.TheOpen as layer
 use Rattle.sc_core.specs.declared.stmt.TypedSimpleKind.TheVariants as simple
 use Rattle.sc_core.specs.declared.value.Want.TheVariants as want
+use Rattle.sc_tac.specs.declared.stmt.Constant.TheVariants as constant
 use Rattle.sc_tac.specs.declared.stmt.TacStmt.TheOpen as tac
 use Rattle.sc_tac.specs.declared.stmt.TacStmt.TheVariants as emit
-use Rattle.sc_lower.proofs.Tests.{scalar_fits, all_append, all_one, all_after, Below, AllBelow, OfExpression, PassedBy}
-use Rattle.sc_lower.proofs.Tests.{PointsToElements, Clean, lone_clean, place_clean, place_passes, fork_passes}
-use Rattle.sc_lower.proofs.Tests.{expr_clean}
+use Rattle.sc_lower.proofs.Tests.{AllBelow, Below, Clean, OfExpression, PassedBy, PointsToElements, all_after}
+use Rattle.sc_lower.proofs.Tests.{all_append, all_one, const_passes, expr_clean, fork_passes, from_one_clean}
+use Rattle.sc_lower.proofs.Tests.{lone_clean, malloc_count, malloc_few, malloc_place, place_clean, place_passes}
+use Rattle.sc_lower.proofs.Tests.{points_fits, scalar_fits}
 
 -- a value that is returned fits
 pub returned_value : (r : Option Ty) (e : Judged) → returned_fits r e ≡ true → e.fits ≡ true
@@ -67,6 +71,8 @@ module _ (temps : ℕ) (scope : Scope) (callable : Callable) (result : Option Ty
   OfStatement (tac.Input dest) = (at : List ℕ) × FitsCall temps scope callable target.Input dest at
   OfStatement (tac.Output v) =
       (dest : Option ℕ) × (at : List ℕ) × (first_of at ≡ v) × FitsCall temps scope callable target.Output dest at
+  OfStatement (tac.Alloc d x words) = (d < temps) × (x < temps) × (nat_le words most_cells ≡ true)
+  OfStatement (tac.Free x) = x < temps
   OfStatement (tac.Return v) = (is_some v ≡ is_some result) × Below temps v
   OfStatement layer = OfExpression temps scope layer
 
@@ -151,6 +157,31 @@ module _ (temps : ℕ) (scope : Scope) (callable : Callable) (result : Option Ty
 
   assign_clean : (f e : Forms) → Cleans (f want.Place) → Cleans (e want.Value) → CleanPart (assign f e)
   assign_clean f e hf he = after_clean (e want.Value) (store_at f) he (store_with f hf)
+
+  -- ALLOCATIONS
+  count_clean : (count : Option TypedExpr) → count_fits (option_map (judged scope) count) ≡ true →
+      Cleans (count_code structs params count)
+  count_clean None h =
+      lone_clean temps scope test exprs (λ d. emit.Const d (constant.Word 1)) (λ d lt. const_passes temps scope test
+      exprs d (constant.Word 1) refl lt)
+  count_clean (Some e) h = clean e (int_fits (judged scope e) h)
+
+  alloc_passes : (d x cells : ℕ) → nat_le cells most_cells ≡ true → d < temps → x < temps →
+      All (emit.Alloc d x cells ∷ [])
+  alloc_passes d x cells few ld lx =
+      all_one test (tac.Alloc d x cells) (emit.Alloc d x cells) (emit.rolls-Alloc d x cells)
+      (and_from _ true (passed (tac.Alloc d x cells) (ld, lx, few)) refl)
+
+  allocate_clean : (f : Forms) (a : Lows) (cells : ℕ) → nat_le cells most_cells ≡ true → Cleans (f want.Place) →
+      Cleans a → CleanPart (allocate_at f a cells)
+  allocate_clean f a cells few hf ha =
+      after_clean (allocation a cells) (store_at f) (from_one_clean temps scope test exprs a (λ d x. emit.Alloc d x
+      cells) (λ d x ld lx. alloc_passes d x cells few ld lx) ha) (store_with f hf)
+
+  free_with : CleanWith (λ at. just (emit.Free at ∷ []))
+  free_with =
+      just_with (λ at. emit.Free at ∷ []) (λ at lt. all_one test (tac.Free at) (emit.Free at) (emit.rolls-Free at)
+      (and_from _ true (passed (tac.Free at) lt) refl))
 
   -- ARGUMENTS
   goes_length : (types : List Ty) (es : List TypedExpr) → all_go_into types (map (judged scope) es) ≡ true →
@@ -307,11 +338,26 @@ module _ (temps : ℕ) (scope : Scope) (callable : Callable) (result : Option Ty
       (and_rest (call_fits callable c.target (map (judged scope) c.args)) _ inner)
       (store_with (form place) (target_clean place (and_first (is_target (judged scope place)) _ h)))
 
+  malloc_clean : (place : TypedExpr) (count : Option TypedExpr) (cells : ℕ) →
+      malloc_fits scope.structs (judged scope place) (option_map (judged scope) count) cells ≡ true →
+      CleanPart (allocate_at (form place) (count_code structs params count) cells)
+  malloc_clean place count cells h =
+      let j = judged scope place in
+      let counts = option_map (judged scope) count in
+      allocate_clean (form place) (count_code structs params count) cells (malloc_few scope.structs j counts cells h)
+      (target_clean place (malloc_place scope.structs j counts cells h))
+      (count_clean count (malloc_count scope.structs j counts cells h))
+
+  free_clean : (e : TypedExpr) → points (judged scope e) ≡ true → CleanPart (free_value (form e))
+  free_clean e h = after_clean (form e want.Value) _ (clean e (points_fits (judged scope e) h)) free_with
+
   simple_clean : (k : TypedSimpleKind) → simple_fits scope callable result k ≡ true →
       CleanPart (simple_code structs params k)
   simple_clean (simple.Assign place e) h = assign_fits_clean place e h
   simple_clean (simple.AssignCall place c) h = assign_call_clean place c h
   simple_clean (simple.Call c) h = call_statement_clean c h
+  simple_clean (simple.Malloc place count cells) h = malloc_clean place count cells h
+  simple_clean (simple.Free e) h = free_clean e h
 
   part_clean : (part : Option TypedSimple) → part_fits scope callable result part ≡ true →
       CleanPart (part_code structs params part)
@@ -356,6 +402,8 @@ module _ (temps : ℕ) (scope : Scope) (callable : Callable) (result : Option Ty
   level line (layer.Assign place e) h looping fits = assign_fits_clean place e fits
   level line (layer.AssignCall place c) h looping fits = assign_call_clean place c fits
   level line (layer.Call c) h looping fits = call_statement_clean c fits
+  level line (layer.Malloc place count cells) h looping fits = malloc_clean place count cells fits
+  level line (layer.Free e) h looping fits = free_clean e fits
   level line (layer.If cond x y) h looping fits =
       let inner = and_rest (is_scalar (judged scope cond)) _ fits in
       after_clean (form cond want.Value)

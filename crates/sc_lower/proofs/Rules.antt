@@ -1,26 +1,26 @@
 -- The code of a function of a well-typed program keeps the rules of functions.
-use Rattle.sc_lower.proofs.Common.{After, All, BaseTy, Bool, Callable, Export, ForSection, Interface}
-use Rattle.sc_lower.proofs.Common.{Interfaces, IsFunction, IsLowerable, List, Main, None, Option, Part, Placed}
-use Rattle.sc_lower.proofs.Common.{ProgramTree, Proto, Scalar, Scope, Signature, Some, TacOp, TacStmt-F, Ty}
-use Rattle.sc_lower.proofs.Common.{TypedFunction, TypedLocal, TypedParam, TypedSection, TypedStruct, []}
-use Rattle.sc_lower.proofs.Common.{all_assigned_first, all_at, allowed, and_first, and_from, and_rest, ap, are_distinct}
-use Rattle.sc_lower.proofs.Common.{arith as numbers, beq, block_code, body_code, body_fits, both, bytes_eq, callable_in}
-use Rattle.sc_lower.proofs.Common.{cells_of, comp_at, counts_elements, enters_by_words, entry_of, eq-eqb, eqb-true}
-use Rattle.sc_lower.proofs.Common.{everywhere, export_at, export_called, export_fits, exports_of, false, false≢true}
-use Rattle.sc_lower.proofs.Common.{first_of as first_temp, following, for_interface, for_section, found_passes}
-use Rattle.sc_lower.proofs.Common.{function_fits, global_fits, has_elements, has_none, has_operands, has_words}
-use Rattle.sc_lower.proofs.Common.{if◌then◌else◌, import_fits, import_name, in_turn, init_fits, inits_code, is_array}
-use Rattle.sc_lower.proofs.Common.{is_plain_name, is_some, is_type, is_well_typed, le-leb, leb-true, length}
-use Rattle.sc_lower.proofs.Common.{length-append, length-map, list_all, list_any, local_fits, lowered_function, lt-ltb}
-use Rattle.sc_lower.proofs.Common.{main_fits, main_name, main_so, map, most_cells, most_exports, most_nodes}
-use Rattle.sc_lower.proofs.Common.{most_params, named_so, names_own_object, names_own_temps, nat_le, nat_lt, nodes, not}
-use Rattle.sc_lower.proofs.Common.{one_or_none, option_map, option_signature, own_names_differ}
-use Rattle.sc_lower.proofs.Common.{passed_fits, passes_few, passes_words, position, proto_signature, refl, result_fits}
-use Rattle.sc_lower.proofs.Common.{returns_result, same_base, same_import, same_signature, same_ty, same_types}
-use Rattle.sc_lower.proofs.Common.{scalar_ty, scope_of, sections_so, signature_of, slice_get, slice_get-map}
-use Rattle.sc_lower.proofs.Common.{slice_index_or, stray_break, stray_continue, structs_fit, subst, suc, sym, takes_two}
-use Rattle.sc_lower.proofs.Common.{target_signature, total, true, type_within, types_length, variable_fits, variables}
-use Rattle.sc_lower.proofs.Common.{zero, ℕ, ◌&&◌, ◌++◌, ◌+◌, ◌<◌, ◌==◌, ◌∙◌, ◌∷◌, ◌≡◌, ◌≤◌}
+use Rattle.sc_lower.proofs.Common.{After, All, BaseTy, Bool, Callable, Export, ForSection, Interface, Interfaces}
+use Rattle.sc_lower.proofs.Common.{IsFunction, IsLowerable, List, Main, None, Option, Part, Placed, ProgramTree, Proto}
+use Rattle.sc_lower.proofs.Common.{Scalar, Scope, Signature, Some, TacOp, TacStmt-F, Ty, TypedFunction, TypedLocal}
+use Rattle.sc_lower.proofs.Common.{TypedParam, TypedSection, TypedStruct, [], all_assigned_first, all_at, allowed}
+use Rattle.sc_lower.proofs.Common.{and_first, and_from, and_rest, ap, are_distinct, arith as numbers, beq, block_code}
+use Rattle.sc_lower.proofs.Common.{body_code, body_fits, both, bytes_eq, callable_in, cells_of, comp_at}
+use Rattle.sc_lower.proofs.Common.{counts_elements, enters_by_words, entry_of, eq-eqb, eqb-true, everywhere, export_at}
+use Rattle.sc_lower.proofs.Common.{export_called, export_fits, exports_of, false, false≢true, first_of as first_temp}
+use Rattle.sc_lower.proofs.Common.{following, for_interface, for_section, found_passes, function_fits, global_fits}
+use Rattle.sc_lower.proofs.Common.{has_elements, has_none, has_operands, has_words, if◌then◌else◌, import_fits}
+use Rattle.sc_lower.proofs.Common.{import_name, in_turn, init_fits, inits_code, is_array, is_plain_name, is_some}
+use Rattle.sc_lower.proofs.Common.{is_type, is_well_typed, le-leb, leb-true, length, length-append, length-map}
+use Rattle.sc_lower.proofs.Common.{list_all, list_any, local_fits, lowered_function, lt-ltb, main_fits, main_name}
+use Rattle.sc_lower.proofs.Common.{main_so, map, most_cells, most_exports, most_nodes, most_params, named_so}
+use Rattle.sc_lower.proofs.Common.{names_own_object, names_own_temps, nat_le, nat_lt, nodes, not, one_or_none}
+use Rattle.sc_lower.proofs.Common.{option_map, option_signature, own_names_differ, passed_fits, passes_few}
+use Rattle.sc_lower.proofs.Common.{passes_words, position, proto_signature, refl, result_fits, returns_result}
+use Rattle.sc_lower.proofs.Common.{same_base, same_import, same_signature, same_ty, same_types, scalar_ty, scope_of}
+use Rattle.sc_lower.proofs.Common.{sections_so, signature_of, slice_get, slice_get-map, slice_index_or, stray_break}
+use Rattle.sc_lower.proofs.Common.{stray_continue, structs_fit, subst, suc, sym, takes_two, target_signature, total}
+use Rattle.sc_lower.proofs.Common.{true, type_within, types_length, variable_fits, variables, zero, ℕ, ◌&&◌, ◌++◌, ◌+◌}
+use Rattle.sc_lower.proofs.Common.{◌<◌, ◌==◌, ◌^◌, ◌∙◌, ◌∷◌, ◌≡◌, ◌≤◌}
 use Rattle.std.proofs.lemmas.List.Sums.{AllPass-from_list_all}
 use Rattle.sc_tac.specs.declared.stmt.TacOp.TheVariants as tacop
 use Rattle.sc_tac.specs.declared.stmt.TacStmt.TheOpen as tac
@@ -81,6 +81,12 @@ module _ (temps : ℕ) where
   own_first : (ts : List ℕ) → length ts ≡ 1 → AllBelow temps ts → list_all own (first_temp ts ∷ []) ≡ true
   own_first [] one h = absurd (cc)
   own_first (t ∷ ts) one h = own_one t h.0
+
+-- cells of an element are counted by a word
+few_words : (words : ℕ) → nat_le words most_cells ≡ true → nat_lt words (2 ^ 32) ≡ true
+few_words words h = lt-ltb words (2 ^ 32) (by words (leb-true words most_cells h)) where
+  by : (w : ℕ) → w ≤ most_cells → w < 4294967296
+  by w h = omega (numbers, h)
 
 -- SIGNATURES
 pub found_allowed : (b : Bool) (o : Option Signature) (signature : Signature) → allowed b o ≡ Some signature →
@@ -352,8 +358,8 @@ module _ (program : ProgramTree) (typed : is_well_typed program ≡ true) where
       temps_passed (tac.Output v) h = output_names_own v h.0 h.1 h.2 h.3
       temps_passed (tac.Return v) h = own_option temps v h.1
       temps_passed (tac.Copy d x) h = absurd h
-      temps_passed (tac.Alloc dest count words) h = absurd h
-      temps_passed (tac.Free pointer) h = absurd h
+      temps_passed (tac.Alloc d x words) h = own_two temps d x h.0 h.1
+      temps_passed (tac.Free x) h = own_one temps x h
 
       objects_passed : (objects : ℕ) → objects ≡ length scope.params + length scope.locals →
           Passes (names_own_object objects)
@@ -363,7 +369,7 @@ module _ (program : ProgramTree) (typed : is_well_typed program ≡ true) where
 
       words_passed : Passes has_words
       words_passed (tac.Const d c) h = h.0
-      words_passed (tac.Alloc dest count words) h = absurd h
+      words_passed (tac.Alloc d x words) h = few_words words h.2
       words_passed _ h = refl
 
       elements_passed : Passes has_elements

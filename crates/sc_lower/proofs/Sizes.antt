@@ -2,11 +2,12 @@
 use Rattle.sc_lower.proofs.Common.{CallTarget, Each, Forms, Inside, List, Local, Low, Lows, Many, None, Option, Part}
 use Rattle.sc_lower.proofs.Common.{Parts, Some, TacStmt, TypedCall, TypedExpr, TypedFunction, TypedLocal, TypedSimple}
 use Rattle.sc_lower.proofs.Common.{TypedSimpleKind, TypedStmt, TypedStmtKind, TypedStmtKind-F, TypedStruct, [], after}
-use Rattle.sc_lower.proofs.Common.{ap, arith as numbers, assign, at_place, block_code, body_code, both, call_code}
-use Rattle.sc_lower.proofs.Common.{call_for, call_nodes, call_statement, cycle, entry_weight, expr_nodes, first_of}
-use Rattle.sc_lower.proofs.Common.{fork, forms, in_turn, init_code, init_nodes, inits_code, just, kind_nodes, kind_step}
-use Rattle.sc_lower.proofs.Common.{layer_of, length, local_nodes, lone, many, map, nodes, on_line, part_code}
-use Rattle.sc_lower.proofs.Common.{part_nodes, place_code, return_value, simple_code, simple_nodes, stmt_at, stmt_code}
+use Rattle.sc_lower.proofs.Common.{allocate_at, allocation, ap, arith as numbers, assign, at_place, block_code}
+use Rattle.sc_lower.proofs.Common.{body_code, both, call_code, call_for, call_nodes, call_statement, count_code}
+use Rattle.sc_lower.proofs.Common.{count_nodes, cycle, entry_weight, expr_nodes, first_of, fork, forms, free_value}
+use Rattle.sc_lower.proofs.Common.{in_turn, init_code, init_nodes, inits_code, just, kind_nodes, kind_step, layer_of}
+use Rattle.sc_lower.proofs.Common.{length, local_nodes, lone, many, map, nodes, on_line, part_code, part_nodes}
+use Rattle.sc_lower.proofs.Common.{place_code, return_value, simple_code, simple_nodes, stmt_at, stmt_code}
 use Rattle.sc_lower.proofs.Common.{stmt_induction, stmt_nodes, store_at, subst, suc, sym, test, total, weight, ℕ, ◌*◌}
 use Rattle.sc_lower.proofs.Common.{◌+◌, ◌<◌, ◌∙◌, ◌∷◌, ◌≤◌}
 use Rattle.sc_core.specs.declared.expr.CallTarget.TheVariants as target
@@ -14,10 +15,11 @@ use Rattle.sc_core.specs.declared.stmt.TypedStmtKind.TheOpen as layer
 use Rattle.sc_core.specs.declared.stmt.TypedSimpleKind.TheVariants as simple
 use Rattle.sc_core.specs.declared.value.Want.TheVariants as want
 use Rattle.sc_core.proofs.Induction.{everywhere}
+use Rattle.sc_tac.specs.declared.stmt.Constant.TheVariants as constant
 use Rattle.sc_tac.specs.declared.stmt.TacStmt.TheOpen as tac
 use Rattle.sc_tac.specs.declared.stmt.TacStmt.TheVariants as emit
-use Rattle.sc_lower.proofs.Bounds.{weight_append, weight_one, at_most, place_weight, if_weight, Rises, place_rises}
-use Rattle.sc_lower.proofs.Bounds.{lone_rises, expr_rises}
+use Rattle.sc_lower.proofs.Bounds.{Rises, at_most, const_weight, expr_rises, if_weight, lone_rises, place_rises}
+use Rattle.sc_lower.proofs.Bounds.{place_weight, weight_append, weight_one}
 
 -- code that takes at most `k` temporaries from the free ones on, and weighs at most 24 for each, and `more` besides
 pub record Grows (p : Parts) (k more : ℕ) : Type 0 where
@@ -72,6 +74,46 @@ assign_grows : (f e : Forms) (k j : ℕ) → Rises (f want.Place) k → Rises (e
 assign_grows f e k j hf he =
     after_grows (e want.Value) (store_at f) j k 0 (omega numbers) he (λ at. store_at_grows f k at hf)
 
+-- code that leaves a value below the next free temporary, takes at most `k`, and weighs less than 24 for each by `less`
+record Leaves (l : Lows) (k less : ℕ) : Type 0 where
+  pub above : (n : ℕ) → n ≤ (l n).next
+  pub few : (n : ℕ) → (l n).next ≤ n + k
+  pub light : (n : ℕ) → weight (l n).code + less ≤ 24 * k
+
+alloc_weight : (d x cells : ℕ) → weight (emit.Alloc d x cells ∷ []) ≤ 10
+alloc_weight d x cells =
+    at_most (emit.Alloc d x cells) 10 10 (weight_one (tac.Alloc d x cells) (emit.Alloc d x cells)
+    (emit.rolls-Alloc d x cells)) (omega numbers)
+
+free_weight : (at : ℕ) → weight (emit.Free at ∷ []) ≤ 5
+free_weight at = at_most (emit.Free at) 5 5 (weight_one (tac.Free at) (emit.Free at) (emit.rolls-Free at))
+    (omega numbers)
+
+allocation_leaves : (a : Lows) (k cells : ℕ) → Leaves a k 10 → Leaves (allocation a cells) k 0
+allocation_leaves a k cells h = record {
+  above = h.above;
+  few = h.few;
+  light = λ n.
+      let x : Low = a n in
+      let last : List TacStmt = emit.Alloc x.at x.at cells ∷ [] in
+      subst (λ z. z + 0 ≤ 24 * k) (sym (weight_append x.code last))
+      (by (weight x.code) (weight last) (h.light n) (alloc_weight x.at x.at cells));
+} where
+  by : (u v : ℕ) → u + 10 ≤ 24 * k → v ≤ 10 → u + v + 0 ≤ 24 * k
+  by u v h g = omega (numbers, h, g)
+
+after_leaves : (a : Lows) (make : ℕ → Parts) (ka k : ℕ) → Leaves a ka 0 → ((at : ℕ) → Grows (make at) k 0) →
+    Grows (after a make) (ka + k) 0
+after_leaves a make ka k ha h = record {
+  up = λ n. omega (numbers, ha.above n, (h (a n).at).up (a n).next);
+  few = λ n. omega (numbers, ha.few n, (h (a n).at).few (a n).next);
+  light = λ n.
+      subst (λ x. x ≤ 24 * (ka + k) + 0) (sym (weight_append (a n).code (make (a n).at (a n).next).code))
+      (by (weight (a n).code) (weight (make (a n).at (a n).next).code) (ha.light n) ((h (a n).at).light (a n).next));
+} where
+  by : (u v : ℕ) → u + 0 ≤ 24 * ka → v ≤ 24 * k + 0 → u + v ≤ 24 * (ka + k) + 0
+  by u v h g = omega (numbers, h, g)
+
 call_weight_most : (to : CallTarget) (dest : Option ℕ) (at : List ℕ) →
     weight (call_code to dest at ∷ []) ≤ 3 * length at + 8
 call_weight_most (target.Own f) dest at =
@@ -96,6 +138,36 @@ module _ (structs : List TypedStruct) (params : ℕ) where
 
   target_rises : (e : TypedExpr) → Rises (form e want.Place) (expr_nodes e)
   target_rises e = expr_rises structs params e want.Place
+
+  count_leaves : (count : Option TypedExpr) → Leaves (count_code structs params count) (suc (count_nodes count)) 10
+  count_leaves None = record {
+    above = λ n. omega numbers;
+    few = λ n. omega numbers;
+    light = λ n. omega (numbers, const_weight n (constant.Word 1));
+  }
+  count_leaves (Some e) =
+      let h = value_rises e in
+      record {
+        above = λ n. omega (numbers, h.above n, h.below n);
+        few = λ n. omega (numbers, h.few n);
+        light = λ n. omega (numbers, h.light n);
+      }
+
+  malloc_grows : (place : TypedExpr) (count : Option TypedExpr) (cells : ℕ) →
+      Grows (allocate_at (form place) (count_code structs params count) cells)
+      (suc (expr_nodes place + count_nodes count)) 0
+  malloc_grows place count cells =
+      loosen _ (suc (count_nodes count) + expr_nodes place) 0 _ 0 (omega numbers) (omega numbers)
+      (after_leaves (allocation (count_code structs params count) cells) (store_at (form place))
+      (suc (count_nodes count)) (expr_nodes place)
+      (allocation_leaves (count_code structs params count) (suc (count_nodes count)) cells (count_leaves count))
+      (λ at. store_at_grows (form place) (expr_nodes place) at (target_rises place)))
+
+  free_grows : (e : TypedExpr) → Grows (free_value (form e)) (suc (expr_nodes e)) 0
+  free_grows e =
+      loosen _ (expr_nodes e + 0) 0 _ 0 (omega numbers) (omega numbers)
+      (after_grows (form e want.Value) _ (expr_nodes e) 0 5 (omega numbers) (value_rises e)
+      (λ at. just_grows (emit.Free at ∷ []) 5 (free_weight at)))
 
   -- arguments: each is read by three instructions more
   record ManyGrow (es : List TypedExpr) (n : ℕ) : Type 0 where
@@ -216,6 +288,8 @@ module _ (structs : List TypedStruct) (params : ℕ) where
       (call_for_grows c (store_at (form place)) (expr_nodes place) 0 (omega numbers) (λ d. store_at_grows (form place)
       (expr_nodes place) d (target_rises place)))
   simple_grows (simple.Call c) = loosen _ (call_nodes c) 8 _ 0 (omega numbers) (omega numbers) (call_statement_grows c)
+  simple_grows (simple.Malloc place count cells) = malloc_grows place count cells
+  simple_grows (simple.Free e) = free_grows e
 
   part_grows : (part : Option TypedSimple) → Grows (part_code structs params part) (part_nodes part) 0
   part_grows None = just_grows [] 0 (omega numbers)
@@ -241,6 +315,8 @@ module _ (structs : List TypedStruct) (params : ℕ) where
       (call_for_grows c (store_at (form place)) (expr_nodes place) 0 (omega numbers) (λ d. store_at_grows (form place)
       (expr_nodes place) d (target_rises place)))
   level line (layer.Call c) h = loosen _ (call_nodes c) 8 _ 0 (omega numbers) (omega numbers) (call_statement_grows c)
+  level line (layer.Malloc place count cells) h = malloc_grows place count cells
+  level line (layer.Free e) h = free_grows e
   level line (layer.If cond x y) h =
       let kx : ℕ = total (map stmt_nodes x) in let ky : ℕ = total (map stmt_nodes y) in
       loosen _ (expr_nodes cond + (kx + ky)) 0 _ 0 (omega numbers) (omega numbers)

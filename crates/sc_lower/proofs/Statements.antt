@@ -4,23 +4,27 @@ use Rattle.sc_lower.proofs.Common.{Err, Forms, Here, Inside, Judged, Left, List,
 use Rattle.sc_lower.proofs.Common.{Part, Parts, Piece, Reached, Result, Return, Scope, Signature, Some, State, Stopped}
 use Rattle.sc_lower.proofs.Common.{TacStmt, Temps, Ty, TypedCall, TypedExpr, TypedFunction, TypedLocal, TypedSimple}
 use Rattle.sc_lower.proofs.Common.{TypedSimpleKind, TypedStmt, TypedStmtKind, TypedStmtKind-F, TypedStruct, Value, Ways}
-use Rattle.sc_lower.proofs.Common.{[], all_do, all_go_into, allowed, and_first, and_rest, and_then, ap, args_fit}
-use Rattle.sc_lower.proofs.Common.{arith as numbers, assign, assign_call, assign_call_fits, assign_fits, at_place}
-use Rattle.sc_lower.proofs.Common.{block_code, block_does, body_code, body_does, body_fits, call as calls_of, call_code}
-use Rattle.sc_lower.proofs.Common.{call_does, call_fits, call_for, call_statement, choose, computed, cycle, false}
-use Rattle.sc_lower.proofs.Common.{false≢true, first_of, follow, forms, goes_into, in_order, in_turn, init_code}
-use Rattle.sc_lower.proofs.Common.{init_does, init_fits, inits_code, inits_do, is_scalar, is_some, is_target, is_true}
-use Rattle.sc_lower.proofs.Common.{judged, just, kind_fits, kind_step, layer_of, leave, length, list_all, list_any}
-use Rattle.sc_lower.proofs.Common.{local_fits, lone, loop, many, map, on_line, option_goes, part_code, part_does}
-use Rattle.sc_lower.proofs.Common.{part_fits, place_code, received, refl, result_goes, return_value, returned_call_fits}
-use Rattle.sc_lower.proofs.Common.{same_import, signed, simple_code, simple_does, simple_fits, stmt_at, stmt_code}
-use Rattle.sc_lower.proofs.Common.{stmt_does, stmt_fits, stmt_induction, stmt_step, store, store_at, store_result}
-use Rattle.sc_lower.proofs.Common.{stored, subst, suc, sym, target_signature, test, true, values, variable_at}
-use Rattle.sc_lower.proofs.Common.{variable_fits, ways, with_memory, with_temp, ℕ, ◌++◌, ◌<◌, ◌∙◌, ◌∷◌, ◌≡◌, ◌≤◌}
-use Rattle.sc_core.specs.Prelude.{assign as assigns, at_place as place_way, call_statement as calls_alone}
-use Rattle.sc_core.specs.Prelude.{kind_step as kind_acts, stmt_does as stmt_acts, store_at as stores_at, test as tests}
+use Rattle.sc_lower.proofs.Common.{[], all_do, all_go_into, allocate_at, allocated, allowed, and_first, and_rest}
+use Rattle.sc_lower.proofs.Common.{and_then, ap, append_assoc, args_fit, arith as numbers, assign, assign_call}
+use Rattle.sc_lower.proofs.Common.{assign_call_fits, assign_fits, at_place, block_code, block_does, body_code}
+use Rattle.sc_lower.proofs.Common.{body_does, body_fits, call as calls_of, call_code, call_does, call_fits, call_for}
+use Rattle.sc_lower.proofs.Common.{call_statement, choose, computed, count_code, count_fits, count_in, count_ways}
+use Rattle.sc_lower.proofs.Common.{cycle, elements_allocated, false, false≢true, first_of, follow, forms, free_value}
+use Rattle.sc_lower.proofs.Common.{freed, goes_into, in_order, in_turn, init_code, init_does, init_fits, inits_code}
+use Rattle.sc_lower.proofs.Common.{inits_do, int_fits, is_scalar, is_some, is_target, is_true, judged, just, kind_fits}
+use Rattle.sc_lower.proofs.Common.{kind_step, layer_of, leave, length, list_all, list_any, local_fits, lone, loop}
+use Rattle.sc_lower.proofs.Common.{malloc_fits, many, map, on_line, option_goes, option_map, part_code, part_does}
+use Rattle.sc_lower.proofs.Common.{part_fits, place_code, points, received, refl, released, result_goes, return_value}
+use Rattle.sc_lower.proofs.Common.{returned_call_fits, same_import, signed, simple_code, simple_does, simple_fits}
+use Rattle.sc_lower.proofs.Common.{stmt_at, stmt_code, stmt_does, stmt_fits, stmt_induction, stmt_step, store, store_at}
+use Rattle.sc_lower.proofs.Common.{store_result, stored, subst, suc, sym, target_signature, test, true, values}
+use Rattle.sc_lower.proofs.Common.{variable_at, variable_fits, ways, with_memory, with_temp, ℕ, ◌*◌, ◌++◌, ◌<◌, ◌∙◌}
+use Rattle.sc_lower.proofs.Common.{◌∷◌, ◌≡◌, ◌≤◌}
+use Rattle.sc_core.specs.Prelude.{allocate_at as allocates_at, assign as assigns, at_place as place_way}
+use Rattle.sc_core.specs.Prelude.{call_statement as calls_alone, free_value as frees_value, kind_step as kind_acts}
+use Rattle.sc_core.specs.Prelude.{stmt_does as stmt_acts, store_at as stores_at, test as tests}
 use Rattle.sc_lower.proofs.Passing.{returned_value}
-use Rattle.sc_lower.proofs.Tests.{scalar_fits}
+use Rattle.sc_lower.proofs.Tests.{malloc_count, malloc_place, points_fits, scalar_fits}
 use Rattle.sc_event.specs.declared.interface.Import.TheVariants as import
 use Rattle.sc_core.specs.declared.ty.Ty.TheVariants as ty
 use Rattle.sc_core.specs.declared.expr.CallTarget.TheVariants as target
@@ -29,8 +33,8 @@ use Rattle.sc_core.specs.declared.stmt.TypedSimpleKind.TheVariants as simple
 use Rattle.sc_core.specs.declared.value.Want.TheVariants as want
 use Rattle.sc_tac.specs.declared.stmt.TacStmt.TheOpen as tac
 use Rattle.sc_tac.specs.declared.stmt.TacStmt.TheVariants as emit
-use Rattle.sc_lower.proofs.Gives.{Keeps, run, with_temp_same, run_append, first_is}
-use Rattle.sc_lower.proofs.Expressions.{Computes, lone_computes, place_computes, place_gives, expr_fits}
+use Rattle.sc_lower.proofs.Gives.{Keeps, first_is, read_then, run, run_append, with_temp_same}
+use Rattle.sc_lower.proofs.Expressions.{Computes, expr_fits, lone_computes, place_computes, place_gives, word_computes}
 use Rattle.sc_lower.proofs.Matching.{answers, value_answers, none_answers, blamed, BackMatches, ends_then, Matches}
 use Rattle.sc_lower.proofs.Matching.{ActsMatch, matches_along, leave_matches, follow_matches, if_matches, rounds_match}
 use Rattle.sc_lower.proofs.Matching.{code_then, read_matches, computed_matches, one_matches, GivesAll, codes_then}
@@ -111,6 +115,9 @@ module _ (arith : Arith) (structs : List TypedStruct) (here : Here) (params : �
 
   abbrev form : TypedExpr → Forms
   form = forms structs params
+
+  abbrev counts : Option TypedExpr → Ways
+  counts = count_ways arith structs here params
 
   abbrev Fit : TypedExpr → Type 0
   Fit e = (judged scope e).fits ≡ true
@@ -255,6 +262,75 @@ module _ (arith : Arith) (structs : List TypedStruct) (here : Here) (params : �
         store_at_matches f w h (form e want.Value n).next line (form e want.Value n).at a u s v
         ((fits_value e fit).below n) is)
 
+    -- what is allocated, into a temporary, and what follows
+    into_temp : (o : Piece Value) (d : ℕ) (t : Temps) (go : Value → State → Piece (Left (Unit {0}))) (rest : Codes) →
+        ((q : Value) (s : State) → Matches has (go q s) (rest (with_temp d q t) s)) →
+        Matches has (and_then o go) (follow in_order (and_then o (λ q s. leave Next (with_temp d q t) s)) rest)
+    into_temp (Reached q s) d t go rest h = h q s
+    into_temp (Stopped end s) d t go rest h = record { other = end; is = refl; same = refl }
+
+    elements_match : (r : Result ℕ Cause) (cells line d : ℕ) (t : Temps) (s : State)
+        (go : Value → State → Piece (Left (Unit {0}))) (rest : Codes) →
+        ((q : Value) (s : State) → Matches has (go q s) (rest (with_temp d q t) s)) →
+        Matches has
+        (and_then (and_then (computed here line r s) (λ count s. allocated here (count * cells) s)) go)
+        (follow in_order (and_then (and_then (computed here 0 r s) (λ count s. allocated here (count * cells) s))
+        (λ q s. leave Next (with_temp d q t) s)) rest)
+    elements_match (Err cause) cells line d t s go rest h = blamed here cause line s _ refl
+    elements_match (Ok count) cells line d t s go rest h = into_temp (allocated here (count * cells) s) d t go rest h
+
+    -- a block of as many elements as a temporary says, and what follows
+    alloc_first : (cells line d x : ℕ) (v : Value) (t : Temps) (s : State) (ys : List TacStmt)
+        (go : Value → State → Piece (Left (Unit {0}))) → t x ≡ Some v →
+        ((q : Value) (s : State) → Matches has (go q s) (run arith here D ys (with_temp d q t) s)) →
+        Matches has (and_then (elements_allocated here v cells line s) go)
+        (run arith here D (emit.Alloc d x cells ∷ ys) t s)
+    alloc_first cells line d x v t s ys go e h =
+        matches_along has
+        _ (follow in_order (and_then (elements_allocated here v cells 0 s) (λ q s. leave Next (with_temp d q t) s))
+        (run arith here D ys)) _
+        (ap (λ o. follow in_order o (run arith here D ys))
+        (first_is arith here D (tac.Alloc d x cells) (emit.Alloc d x cells) t s (emit.rolls-Alloc d x cells)
+        ∙ read_then arith here D x v t s (λ v s. and_then (elements_allocated here v cells 0 s)
+        (λ q s. leave Next (with_temp d q t) s)) e))
+        (elements_match (count_in v) cells line d t s go (run arith here D ys) h)
+
+    count_computes : (count : Option TypedExpr) → count_fits (option_map (judged scope) count) ≡ true →
+        Computes arith here D (count_code structs params count) (counts count want.Value)
+    count_computes None h = word_computes arith here D 1
+    count_computes (Some e) h = fits_value e (int_fits (judged scope e) h)
+
+    malloc_matches : (place : TypedExpr) (count : Option TypedExpr) (cells n line : ℕ) →
+        malloc_fits scope.structs (judged scope place) (option_map (judged scope) count) cells ≡ true →
+        Does (allocates_at here (way place) (counts count) cells line)
+        (run arith here D (allocate_at (form place) (count_code structs params count) cells n).code)
+    malloc_matches place count cells n line h a t s =
+        let j = judged scope place in
+        let x : Low = count_code structs params count n in
+        let ys : List TacStmt = (store_at (form place) x.at x.next).code in
+        let hc = count_computes count (malloc_count scope.structs j (option_map (judged scope) count) cells h) in
+        matches_along has _ _ _ (ap (λ xs. run arith here D xs t s) (append_assoc x.code
+        (emit.Alloc x.at x.at cells ∷ []) ys))
+        (code_then has arith here D n x.at line t s (counts count want.Value (s.memory here.comp)) x.code
+        (emit.Alloc x.at x.at cells ∷ ys)
+        (λ v s. and_then (elements_allocated here v cells line s) (λ q s. stores_at here (way place) q line a s))
+        (hc.gives n t s)
+        (λ v u is k. alloc_first cells line x.at x.at v u s ys (λ q s. stores_at here (way place) q line a s) is
+        (λ q s. store_at_matches (form place) (way place) (fits_place place (place_fit place
+        (malloc_place scope.structs j (option_map (judged scope) count) cells h))) x.next line x.at a
+        (with_temp x.at q u) s q (hc.below n) (with_temp_same x.at q u))))
+
+    free_matches : (e : TypedExpr) (n line : ℕ) → points (judged scope e) ≡ true →
+        Does (frees_value here (way e) line) (run arith here D (free_value (form e) n).code)
+    free_matches e n line h a t s =
+        let at : ℕ = (form e want.Value n).at in
+        value_first e (points_fits (judged scope e) h) n line t s (emit.Free at ∷ [])
+        (λ v s. released here v line a s) (λ v u is k.
+        one_matches has arith here D _ (tac.Free at) (emit.Free at) u s (emit.rolls-Free at)
+        (read_matches has arith here D at v u s _ _ is
+        (computed_matches has arith here D line s (freed (s.memory here.comp) v) _ _ (λ blocks. leave_matches has Next
+        refl a u (with_memory here.comp blocks s)))))
+
     call_statement_matches : (c : TypedCall) (n line : ℕ) →
         call_fits callable c.target (map (judged scope) c.args) ≡ true →
         Does (calls_alone here C c.target (map way c.args) line)
@@ -297,6 +373,8 @@ module _ (arith : Arith) (structs : List TypedStruct) (here : Here) (params : �
     simple_matches (simple.Assign place e) n line h = assigned_matches place e n line h
     simple_matches (simple.AssignCall place c) n line h = assign_call_matches place c n line h
     simple_matches (simple.Call c) n line h = call_statement_matches c n line h
+    simple_matches (simple.Malloc place count cells) n line h = malloc_matches place count cells n line h
+    simple_matches (simple.Free e) n line h = free_matches e n line h
 
     part_matches : (part : Option TypedSimple) (n : ℕ) → part_fits scope callable result part ≡ true →
         Does (part_does arith structs here params C part) (run arith here D (part_code structs params part n).code)
@@ -402,6 +480,8 @@ module _ (arith : Arith) (structs : List TypedStruct) (here : Here) (params : �
     level line (layer.Assign place e) h looping fits n = assigned_matches place e n line fits
     level line (layer.AssignCall place c) h looping fits n = assign_call_matches place c n line fits
     level line (layer.Call c) h looping fits n = call_statement_matches c n line fits
+    level line (layer.Malloc place count cells) h looping fits n = malloc_matches place count cells n line fits
+    level line (layer.Free e) h looping fits n = free_matches e n line fits
     level line (layer.If cond x y) h looping fits n = λ a t s.
         let inner = and_rest (is_scalar (judged scope cond)) _ fits in
         let c : Low = form cond want.Value n in

@@ -1,27 +1,29 @@
 -- No `Break` or `Continue` of a function's code stands outside of loops.
-use Rattle.sc_lower.proofs.Common.{Bool, CallTarget, Callable, Each, Forms, Inside, Judged, List, Local, Lows, Many}
-use Rattle.sc_lower.proofs.Common.{None, Option, Part, Parts, Scope, Some, TacStmt, TacStmt-F, Ty, TypedCall, TypedExpr}
-use Rattle.sc_lower.proofs.Common.{TypedLocal, TypedSimple, TypedSimpleKind, TypedStmt, TypedStmtKind, TypedStmtKind-F}
-use Rattle.sc_lower.proofs.Common.{TypedStruct, Want, [], after, all_go_into, and_first, and_rest, ap, arith as numbers}
-use Rattle.sc_lower.proofs.Common.{assign, assign_call_fits, assign_fits, at_place, block_code, body_fits, both}
-use Rattle.sc_lower.proofs.Common.{call_code, call_fits, call_for, call_statement, cycle, everywhere, false, false≢true}
-use Rattle.sc_lower.proofs.Common.{first_of, fold-TacStmt, fold-roll-TacStmt, fork, forms, goes_into, has_none, in_turn}
-use Rattle.sc_lower.proofs.Common.{init_code, init_fits, inits_code, is_scalar, is_target, is_type, judged, just}
-use Rattle.sc_lower.proofs.Common.{kind_fits, kind_step, layer_of, length, list_all, lone, many, map, map-TacStmt, not}
-use Rattle.sc_lower.proofs.Common.{or_from, part_code, part_fits, place_code, refl, return_value, returned_call_fits}
-use Rattle.sc_lower.proofs.Common.{roll-TacStmt, signed, simple_code, simple_fits, some_hold, stmt_at, stmt_code}
-use Rattle.sc_lower.proofs.Common.{stmt_fits, stmt_induction, store_at, stray_break, stray_continue, subst, suc, sym}
-use Rattle.sc_lower.proofs.Common.{target_signature, test as tests, true, variable_ty, with_parts, ℕ, ◌++◌, ◌||◌, ◌∙◌}
-use Rattle.sc_lower.proofs.Common.{◌∷◌, ◌≡◌}
+use Rattle.sc_lower.proofs.Common.{Bool, CallTarget, Callable, Each, Forms, Inside, Judged, List, Local, Low, Lows}
+use Rattle.sc_lower.proofs.Common.{Many, None, Option, Part, Parts, Scope, Some, TacStmt, TacStmt-F, Ty, TypedCall}
+use Rattle.sc_lower.proofs.Common.{TypedExpr, TypedLocal, TypedSimple, TypedSimpleKind, TypedStmt, TypedStmtKind}
+use Rattle.sc_lower.proofs.Common.{TypedStmtKind-F, TypedStruct, Want, [], after, all_go_into, allocate_at, allocation}
+use Rattle.sc_lower.proofs.Common.{and_first, and_rest, ap, arith as numbers, assign, assign_call_fits, assign_fits}
+use Rattle.sc_lower.proofs.Common.{at_place, block_code, body_fits, both, call_code, call_fits, call_for}
+use Rattle.sc_lower.proofs.Common.{call_statement, count_code, count_fits, cycle, everywhere, false, false≢true}
+use Rattle.sc_lower.proofs.Common.{first_of, fold-TacStmt, fold-roll-TacStmt, fork, forms, free_value, goes_into}
+use Rattle.sc_lower.proofs.Common.{has_none, in_turn, init_code, init_fits, inits_code, int_fits, is_scalar, is_target}
+use Rattle.sc_lower.proofs.Common.{is_type, judged, just, kind_fits, kind_step, layer_of, length, list_all, lone}
+use Rattle.sc_lower.proofs.Common.{malloc_fits, many, map, map-TacStmt, not, option_map, or_from, part_code, part_fits}
+use Rattle.sc_lower.proofs.Common.{place_code, points, refl, return_value, returned_call_fits, roll-TacStmt, signed}
+use Rattle.sc_lower.proofs.Common.{simple_code, simple_fits, some_hold, stmt_at, stmt_code, stmt_fits, stmt_induction}
+use Rattle.sc_lower.proofs.Common.{store_at, stray_break, stray_continue, subst, suc, sym, target_signature}
+use Rattle.sc_lower.proofs.Common.{test as tests, true, variable_ty, with_parts, ℕ, ◌++◌, ◌||◌, ◌∙◌, ◌∷◌, ◌≡◌}
 use Rattle.sc_core.specs.declared.expr.CallTarget.TheVariants as target
 use Rattle.sc_core.specs.declared.stmt.TypedStmtKind.TheOpen as layer
 use Rattle.sc_core.specs.declared.stmt.TypedSimpleKind.TheVariants as simple
 use Rattle.sc_core.specs.declared.value.Want.TheVariants as want
+use Rattle.sc_tac.specs.declared.stmt.Constant.TheVariants as constant
 use Rattle.sc_tac.specs.declared.stmt.TacStmt.TheOpen as tac
 use Rattle.sc_tac.specs.declared.stmt.TacStmt.TheVariants as emit
 use Rattle.sc_tac.proofs.Induction.{Inside as CodeInside, stmt_induction as code_induction}
-use Rattle.sc_lower.proofs.Tests.{scalar_fits, PassedBy, PointsToElements, lone_clean, place_clean, place_passes}
-use Rattle.sc_lower.proofs.Tests.{expr_clean}
+use Rattle.sc_lower.proofs.Tests.{PassedBy, PointsToElements, all_append, all_one, expr_clean, lone_clean, malloc_count}
+use Rattle.sc_lower.proofs.Tests.{malloc_place, place_clean, place_passes, points_fits, scalar_fits}
 use Rattle.sc_lower.proofs.Passing.{returned_value, InitsFit}
 
 -- STRAIGHT CODE
@@ -64,6 +66,22 @@ module _ (scope : Scope) (structs : List TypedStruct) (elements : PointsToElemen
       (lone (place_code (length scope.params) (Local k))) (lone_clean m scope is_straight (straight_passed m scope)
       (place_code (length scope.params) (Local k)) (place_passes m scope is_straight (straight_passed m scope) (Local k)
       t h))).passes n (omega numbers)
+
+  count_straight : (count : Option TypedExpr) → count_fits (option_map (judged scope) count) ≡ true → (n : ℕ) →
+      Straight (count_code structs (length scope.params) count n).code
+  count_straight None h n =
+      all_one is_straight (tac.Const n (constant.Word 1)) (emit.Const n (constant.Word 1))
+      (emit.rolls-Const n (constant.Word 1)) refl
+  count_straight (Some e) h n = value_straight e (int_fits (judged scope e) h) n
+
+  -- a count, and then a block
+  pub allocation_straight : (count : Option TypedExpr) (cells : ℕ) → count_fits (option_map (judged scope) count)
+      ≡ true → (n : ℕ) → Straight (allocation (count_code structs (length scope.params) count) cells n).code
+  allocation_straight count cells h n =
+      let x : Low = count_code structs (length scope.params) count n in
+      all_append is_straight x.code (emit.Alloc x.at x.at cells ∷ []) (count_straight count h n)
+      (all_one is_straight (tac.Alloc x.at x.at cells) (emit.Alloc x.at x.at cells) (emit.rolls-Alloc x.at x.at cells)
+      refl)
 
 -- STRAYS
 -- a statement without others inside, which goes on or ends the call
@@ -218,6 +236,11 @@ module _ (stray : TacStmt-F Bool → Bool) (strays : Strays stray) where
       ((n : ℕ) → Straight (e want.Value n).code) → NonePart (assign f e)
   assign_none f e hf he = after_none (e want.Value) (store_at f) he (store_none f hf)
 
+  free_none : (f : Forms) → ((n : ℕ) → Straight (f want.Value n).code) → NonePart (free_value f)
+  free_none f hf =
+      after_none (f want.Value) (λ at. just (emit.Free at ∷ [])) hf (λ at n. none_one (tac.Free at) (emit.Free at)
+      (emit.rolls-Free at) (strays.plain (tac.Free at) refl))
+
   call_none : (to : CallTarget) (dest : Option ℕ) (at : List ℕ) → Free (call_code to dest at ∷ [])
   call_none (target.Own function) dest at =
       none_one (tac.CallOwn dest function at) (emit.CallOwn dest function at) (emit.rolls-CallOwn dest function at)
@@ -292,11 +315,27 @@ module _ (stray : TacStmt-F Bool → Bool) (strays : Strays stray) where
         (store_none (form place) (target_straight scope structs elements place (and_first (is_target
         (judged scope place)) _ h)))
 
+    malloc_none : (place : TypedExpr) (count : Option TypedExpr) (cells : ℕ) →
+        malloc_fits scope.structs (judged scope place) (option_map (judged scope) count) cells ≡ true →
+        NonePart (allocate_at (form place) (count_code structs params count) cells)
+    malloc_none place count cells h =
+        let j = judged scope place in
+        let counts = option_map (judged scope) count in
+        after_none (allocation (count_code structs params count) cells) (store_at (form place))
+        (allocation_straight scope structs elements count cells (malloc_count scope.structs j counts cells h))
+        (store_none (form place) (target_straight scope structs elements place (malloc_place scope.structs j counts
+        cells h)))
+
+    freed_none : (e : TypedExpr) → points (judged scope e) ≡ true → NonePart (free_value (form e))
+    freed_none e h = free_none (form e) (value_straight scope structs elements e (points_fits (judged scope e) h))
+
     simple_none : (k : TypedSimpleKind) → simple_fits scope callable result k ≡ true →
         NonePart (simple_code structs params k)
     simple_none (simple.Assign place e) h = assigned_none place e h
     simple_none (simple.AssignCall place c) h = assign_call_none place c h
     simple_none (simple.Call c) h = call_statement_none c h
+    simple_none (simple.Malloc place count cells) h = malloc_none place count cells h
+    simple_none (simple.Free e) h = freed_none e h
 
     part_none : (part : Option TypedSimple) → part_fits scope callable result part ≡ true →
         NonePart (part_code structs params part)
@@ -346,6 +385,8 @@ module _ (stray : TacStmt-F Bool → Bool) (strays : Strays stray) where
     level line (layer.Assign place e) h fits n = assigned_none place e fits n
     level line (layer.AssignCall place c) h fits n = assign_call_none place c fits n
     level line (layer.Call c) h fits n = call_statement_none c fits n
+    level line (layer.Malloc place count cells) h fits n = malloc_none place count cells fits n
+    level line (layer.Free e) h fits n = freed_none e fits n
     level line (layer.If cond x y) h fits m =
         let inner = and_rest (is_scalar (judged scope cond)) _ fits in
         after_none (form cond want.Value) (fork (block_code structs params x) (block_code structs params y))

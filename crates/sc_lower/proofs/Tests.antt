@@ -1,19 +1,20 @@
 -- The statements of lowered code pass each test that the statements which are emitted pass.
-use Rattle.sc_lower.proofs.Common.{BinaryOp, Bool, Constant, Global, Int, Judged, List, Local, Low, Lowered}
-use Rattle.sc_lower.proofs.Common.{Lows, None, Option, Param, Scope, Some, TacOp, TacStmt, TacStmt-F, Ty, TypedExpr}
-use Rattle.sc_lower.proofs.Common.{TypedKind, TypedKind-F, TypedStruct, UnaryOp, Under, VarRef, Want, [], address_fits}
-use Rattle.sc_lower.proofs.Common.{and_code, and_first, and_from, and_rest, ap, are_equatable, are_ordered}
-use Rattle.sc_lower.proofs.Common.{arith as numbers, at_place, between_op, binary, binary_code, binary_fits, both_ints}
-use Rattle.sc_lower.proofs.Common.{common, constant_of, counts_elements, decayed, difference_fits, either, everywhere}
-use Rattle.sc_lower.proofs.Common.{expr_at, expr_induction, false, false≢true, fold-TacStmt}
+use Rattle.sc_lower.proofs.Common.{BinaryOp, Bool, Constant, Global, Int, Judged, List, Local, Low, Lowered, Lows, None}
+use Rattle.sc_lower.proofs.Common.{Option, Param, Scope, Some, TacOp, TacStmt, TacStmt-F, Ty, TypedExpr, TypedKind}
+use Rattle.sc_lower.proofs.Common.{TypedKind-F, TypedStruct, UnaryOp, Under, VarRef, Want, [], address_fits, and_code}
+use Rattle.sc_lower.proofs.Common.{and_first, and_from, and_rest, ap, are_equatable, are_ordered, arith as numbers}
+use Rattle.sc_lower.proofs.Common.{at_place, between_op, binary, binary_code, binary_fits, both_ints, common}
+use Rattle.sc_lower.proofs.Common.{constant_of, count_fits, counts_elements, decayed, difference_fits, either}
+use Rattle.sc_lower.proofs.Common.{everywhere, expr_at, expr_induction, false, false≢true, fold-TacStmt}
 use Rattle.sc_lower.proofs.Common.{fold-roll-TacStmt, from_first, from_one, from_two, if◌then◌else◌, int_fits}
 use Rattle.sc_lower.proofs.Common.{integer_kind, is_address, is_array, is_int, is_machine_word, is_pointer, is_scalar}
-use Rattle.sc_lower.proofs.Common.{is_type, is_unsigned_op, judged, judged_ty, leb-true, length, literal_fits, loaded}
-use Rattle.sc_lower.proofs.Common.{lone, lowered, lowered_step, lt-ltb, map-TacStmt, member, move_op, not_op, or_code}
-use Rattle.sc_lower.proofs.Common.{place_code, points, refl, roll-TacStmt, same_pointers, same_ty, scalar_in, scalar_of}
-use Rattle.sc_lower.proofs.Common.{slice_get, subst, suc, sum_fits, sym, takes_two, target_cells, term_judged, term_of}
+use Rattle.sc_lower.proofs.Common.{is_some, is_target, is_type, is_unsigned_op, judged, judged_ty, leb-true, length}
+use Rattle.sc_lower.proofs.Common.{literal_fits, loaded, lone, lowered, lowered_step, lt-ltb, malloc_fits, map-TacStmt}
+use Rattle.sc_lower.proofs.Common.{member, most_cells, move_op, nat_le, not_op, or_code, place_code, points, refl}
+use Rattle.sc_lower.proofs.Common.{roll-TacStmt, same_pointers, same_ty, scalar_in, scalar_of, size_of, slice_get}
+use Rattle.sc_lower.proofs.Common.{subst, suc, sum_fits, sym, takes_two, target, target_cells, term_judged, term_of}
 use Rattle.sc_lower.proofs.Common.{term_step, true, truth_code, unary_fits, unary_op, variable_ty, with_parts, zero, ℕ}
-use Rattle.sc_lower.proofs.Common.{◌&&◌, ◌++◌, ◌+◌, ◌<◌, ◌^◌, ◌||◌, ◌∙◌, ◌∷◌, ◌≡◌, ◌≤◌}
+use Rattle.sc_lower.proofs.Common.{◌%◌, ◌&&◌, ◌*◌, ◌++◌, ◌+◌, ◌<◌, ◌==◌, ◌^◌, ◌||◌, ◌∙◌, ◌∷◌, ◌≡◌, ◌≤◌}
 use Rattle.sc_lower.proofs.Lowered.{lowered_ty}
 use Rattle.sc_base.specs.declared.op.BinaryOp.TheVariants as op
 use Rattle.sc_base.specs.declared.op.UnaryOp.TheVariants as unary
@@ -25,7 +26,7 @@ use Rattle.sc_tac.specs.declared.stmt.TacStmt.TheOpen as tac
 use Rattle.sc_tac.specs.declared.stmt.TacStmt.TheVariants as emit
 
 -- WHAT FITS
-points_fits : (a : Judged) → points a ≡ true → a.fits ≡ true
+pub points_fits : (a : Judged) → points a ≡ true → a.fits ≡ true
 points_fits a h = and_first a.fits _ h
 
 pub scalar_fits : (a : Judged) → is_scalar a ≡ true → a.fits ≡ true
@@ -113,6 +114,22 @@ unary_fit unary.Minus a t h = int_fits a (and_first (is_int a) _ h)
 unary_fit unary.Plus a t h = int_fits a (and_first (is_int a) _ h)
 unary_fit unary.BitNot a t h = int_fits a (and_first (is_int a) _ h)
 
+-- what is allocated: a place, an integer that counts the elements, and few cells in each
+module _ (structs : List TypedStruct) (place : Judged) (count : Option Judged) (cells : ℕ)
+    (h : malloc_fits structs place count cells ≡ true) where
+  pub malloc_place : is_target place ≡ true
+  malloc_place = and_first (is_target place) _ h
+
+  later : (nat_le cells most_cells && count_fits count) ≡ true
+  later = and_rest (target_cells structs place.ty == cells) _ (and_rest (is_some (target place.ty)) _
+      (and_rest (is_target place) _ h))
+
+  pub malloc_few : nat_le cells most_cells ≡ true
+  malloc_few = and_first (nat_le cells most_cells) _ later
+
+  pub malloc_count : count_fits count ≡ true
+  malloc_count = and_rest (nat_le cells most_cells) _ later
+
 pub typed_at : (types : List Ty) (i : ℕ) (t : Ty) → is_type (slice_get types i) t ≡ true → i < length types
 typed_at [] i t h = absurd (false≢true h)
 typed_at (x ∷ xs) zero t h = omega numbers
@@ -128,6 +145,10 @@ literal_word ty.Unsigned word h = h
 literal_word (ty.Struct n) word h = absurd (false≢true h)
 literal_word (ty.Pointer stars base) word h = refl
 literal_word (ty.Array stars base length) word h = absurd (false≢true h)
+
+-- a size is a word
+size_word : (cells : ℕ) → is_machine_word (size_of cells) ≡ true
+size_word cells = lt-ltb (4 * cells % 2 ^ 32) (2 ^ 32) (omega numbers)
 
 -- what each address points to has as many cells as an element may have
 abbrev pub PointsToElements : Scope → List TypedStruct → Type 0
@@ -221,7 +242,7 @@ module _ (temps : ℕ) (scope : Scope) (test : TacStmt-F Bool → Bool) (passed 
     pub below : (n : ℕ) → (l n).at < (l n).next
     pub passes : (n : ℕ) → (l n).next ≤ temps → everywhere test (l n).code ≡ true
 
-  const_passes : (d : ℕ) (c : Constant) → is_machine_word c ≡ true → d < temps →
+  pub const_passes : (d : ℕ) (c : Constant) → is_machine_word c ≡ true → d < temps →
       everywhere test (emit.Const d c ∷ []) ≡ true
   const_passes d c word lt =
       all_one test (tac.Const d c) (emit.Const d c) (emit.rolls-Const d c) (and_from _ true (passed (tac.Const d c)
@@ -266,7 +287,7 @@ module _ (temps : ℕ) (scope : Scope) (test : TacStmt-F Bool → Bool) (passed 
         (loaded_passes t w (l n).at (omega (numbers, h.below n, le)));
   }
 
-  from_one_clean : (a : Lows) (make : ℕ → ℕ → TacStmt) →
+  pub from_one_clean : (a : Lows) (make : ℕ → ℕ → TacStmt) →
       ((d x : ℕ) → d < temps → x < temps → everywhere test (make d x ∷ []) ≡ true) → Clean a → Clean (from_one a make)
   from_one_clean a make h ha = record {
     above = ha.above;
@@ -464,6 +485,8 @@ module _ (temps : ℕ) (scope : Scope) (test : TacStmt-F Bool → Bool) (passed 
         place_clean t w _ (h (address_fits (judged scope a) (and_first (is_address (judged scope a)) _ fits))
         want.Value)
     level t (term.Address a) h fits w = h (and_first (judged scope a).fits _ fits) want.Place
+    level t (term.SizeOf cells) h fits w =
+        lone_clean _ (λ d lt. const_passes d (size_of cells) (size_word cells) lt)
 
     pub expr_clean : (e : TypedExpr) → P e
     expr_clean = expr_induction P (λ t k h fits w.

@@ -22,6 +22,7 @@ term_beyond (term.Member base offset) = base
 term_beyond (term.Arrow base offset) = base
 term_beyond (term.Deref of) = of
 term_beyond (term.Address of) = of
+term_beyond (term.SizeOf cells) = 0
 
 abbrev pub expr_beyond : TypedExpr → ℕ
 expr_beyond = fold-TypedExpr ℕ ℕ term_beyond (λ e. e.kind)
@@ -29,10 +30,16 @@ expr_beyond = fold-TypedExpr ℕ ℕ term_beyond (λ e. e.kind)
 abbrev pub call_beyond : TypedCall → ℕ
 call_beyond call = total (map expr_beyond call.args)
 
+abbrev pub count_beyond : Option TypedExpr → ℕ
+count_beyond None = 0
+count_beyond (Some count) = expr_beyond count
+
 abbrev pub simple_beyond : TypedSimpleKind → ℕ
 simple_beyond (simple.Assign place value) = expr_beyond place + expr_beyond value
 simple_beyond (simple.AssignCall place call) = expr_beyond place + call_beyond call
 simple_beyond (simple.Call call) = call_beyond call
+simple_beyond (simple.Malloc place count cells) = expr_beyond place + count_beyond count
+simple_beyond (simple.Free pointer) = expr_beyond pointer
 
 abbrev pub part_beyond : Option TypedSimple → ℕ
 part_beyond None = 0
@@ -43,6 +50,8 @@ kind_beyond layer.Empty = 0
 kind_beyond (layer.Assign place value) = expr_beyond place + expr_beyond value
 kind_beyond (layer.AssignCall place call) = expr_beyond place + call_beyond call
 kind_beyond (layer.Call call) = call_beyond call
+kind_beyond (layer.Malloc place count cells) = expr_beyond place + count_beyond count
+kind_beyond (layer.Free pointer) = expr_beyond pointer
 kind_beyond (layer.If cond first second) = expr_beyond cond + total first + total second
 kind_beyond (layer.While cond body) = expr_beyond cond + total body
 kind_beyond (layer.For first cond next body) = part_beyond first + expr_beyond cond + part_beyond next + total body

@@ -44,6 +44,7 @@ term_branches (term.Member base offset) = base
 term_branches (term.Arrow base offset) = base
 term_branches (term.Deref of) = of
 term_branches (term.Address of) = of
+term_branches (term.SizeOf cells) = 0
 
 abbrev pub expr_branches : TypedExpr → ℕ
 expr_branches = fold-TypedExpr ℕ ℕ term_branches (λ e. e.kind)
@@ -51,10 +52,16 @@ expr_branches = fold-TypedExpr ℕ ℕ term_branches (λ e. e.kind)
 abbrev pub call_branches : TypedCall → ℕ
 call_branches call = total (map expr_branches call.args)
 
+abbrev pub count_branches : Option TypedExpr → ℕ
+count_branches None = 0
+count_branches (Some count) = expr_branches count
+
 abbrev pub simple_branches : TypedSimpleKind → ℕ
 simple_branches (simple.Assign place value) = expr_branches place + expr_branches value
 simple_branches (simple.AssignCall place call) = expr_branches place + call_branches call
 simple_branches (simple.Call call) = call_branches call
+simple_branches (simple.Malloc place count cells) = expr_branches place + count_branches count
+simple_branches (simple.Free pointer) = expr_branches pointer
 
 abbrev pub part_branches : Option TypedSimple → ℕ
 part_branches None = 0
@@ -66,6 +73,8 @@ kind_branches layer.Empty = 0
 kind_branches (layer.Assign place value) = expr_branches place + expr_branches value
 kind_branches (layer.AssignCall place call) = expr_branches place + call_branches call
 kind_branches (layer.Call call) = call_branches call
+kind_branches (layer.Malloc place count cells) = expr_branches place + count_branches count
+kind_branches (layer.Free pointer) = expr_branches pointer
 kind_branches (layer.If cond first second) = suc (expr_branches cond + total first + total second)
 kind_branches (layer.While cond body) = suc (expr_branches cond + total body)
 kind_branches (layer.For first cond next body) =

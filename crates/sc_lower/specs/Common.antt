@@ -25,6 +25,6 @@ pub use Rattle.sc_core.specs.declared.ty.Ty.{Ty}
 pub use Rattle.sc_tac.specs.Prelude.{IsFunction, IsProgram, code_denotations, code_depth_by, code_run}
 pub use Rattle.sc_tac.specs.Prelude.{scripted_code_depth_by, scripted_code_run}
 pub use Rattle.sc_tac.specs.declared.stmt.TacStmt.{TacStmt, TacStmt-F, fold-TacStmt}
-pub use Rattle.sc_tac.specs.declared.stmt.TacStmt.TheVariants.{Break, CallCross, CallOwn, Const, Continue, GlobalPlace}
-pub use Rattle.sc_tac.specs.declared.stmt.TacStmt.TheVariants.{If, Input, Load, Loop, ObjectPlace, Op, Output, Return}
-pub use Rattle.sc_tac.specs.declared.stmt.TacStmt.TheVariants.{Store}
+pub use Rattle.sc_tac.specs.declared.stmt.TacStmt.TheVariants.{Alloc, Break, CallCross, CallOwn, Const, Continue}
+pub use Rattle.sc_tac.specs.declared.stmt.TacStmt.TheVariants.{Free, GlobalPlace, If, Input, Load, Loop, ObjectPlace}
+pub use Rattle.sc_tac.specs.declared.stmt.TacStmt.TheVariants.{Op, Output, Return, Store}

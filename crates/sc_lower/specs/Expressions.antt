@@ -2,7 +2,8 @@
 use Rattle.sc_lower.specs.Common.{BinaryOp, Const, Global, GlobalPlace, If, Load, Local, ObjectPlace, Op, Param}
 use Rattle.sc_lower.specs.Common.{TacStmt, Ty, TypedExpr, TypedExpr-F, TypedKind-F, TypedStruct, VarRef, fold-TypedExpr}
 use Rattle.sc_lower.specs.Common.{is_array, is_pointer, is_unsigned, is_unsigned_op, target_cells}
-use Rattle.std.specs.Prelude.{ℕ, suc, ◌+◌, Bool, true, false, List, [], ◌∷◌, ◌++◌, None, Some, if◌then◌else◌}
+use Rattle.std.specs.Prelude.{ℕ, suc, ◌+◌, ◌*◌, ◌%◌, ◌^◌, Bool, true, false, List, [], ◌∷◌, ◌++◌, None, Some}
+use Rattle.std.specs.Prelude.{if◌then◌else◌}
 use Rattle.sc_base.specs.declared.op.UnaryOp.{UnaryOp}
 use Rattle.sc_base.specs.declared.op.UnaryOp.TheVariants as unary
 use Rattle.sc_base.specs.declared.op.BinaryOp.TheVariants as op
@@ -71,6 +72,10 @@ at_place ty place w n = let x = place n in record { code = x.code ++ loaded ty w
 -- an expression that names no place
 abbrev pub no_place : Lows → Forms
 no_place value w = value
+
+-- the size of a type of so many cells (C11 6.5.3.4)
+abbrev pub size_of : ℕ → Constant
+size_of cells = constant.Word (4 * cells % 2 ^ 32)
 
 -- OPERATORS
 abbrev pub scalar_in : Bool → Scalar
@@ -168,6 +173,7 @@ module _ (structs : List TypedStruct) where
     term_step (term.Arrow a offset) ty = at_place ty (member offset (a.form want.Value))
     term_step (term.Deref a) ty = at_place ty (a.form want.Value)
     term_step (term.Address a) ty = no_place (a.form want.Place)
+    term_step (term.SizeOf cells) ty = no_place (lone (λ dest. Const dest (size_of cells)))
 
     abbrev pub lowered : TypedExpr → Lowered
     lowered = fold-TypedExpr (Ty → Forms) Lowered term_step lowered_step

@@ -1,14 +1,15 @@
 -- The code of statements, in the order in which it runs: values first, then places, then stores.
-use Rattle.sc_lower.specs.Common.{Break, CallCross, CallOwn, Continue, If, Input, Loop, Output, Return, Store, TacStmt}
-use Rattle.sc_lower.specs.Common.{TypedCall, TypedSimple, TypedSimpleKind, TypedStmt, TypedStmtKind-F, TypedStruct}
-use Rattle.sc_lower.specs.Common.{fold-TypedStmt}
+use Rattle.sc_lower.specs.Common.{Alloc, Break, CallCross, CallOwn, Const, Continue, Free, If, Input, Loop, Output}
+use Rattle.sc_lower.specs.Common.{Return, Store, TacStmt, TypedCall, TypedExpr, TypedSimple, TypedSimpleKind, TypedStmt}
+use Rattle.sc_lower.specs.Common.{TypedStmtKind-F, TypedStruct, fold-TypedStmt}
 use Rattle.std.specs.Prelude.{ℕ, suc, List, [], ◌∷◌, ◌++◌, map, Option, None, Some}
 use Rattle.sc_core.specs.declared.expr.CallTarget.{CallTarget}
 use Rattle.sc_core.specs.declared.expr.CallTarget.TheVariants as target
 use Rattle.sc_core.specs.declared.stmt.TypedStmtKind.TheOpen as layer
 use Rattle.sc_core.specs.declared.stmt.TypedSimpleKind.TheVariants as simple
 use Rattle.sc_core.specs.declared.value.Want.TheVariants as want
-use Rattle.sc_lower.specs.Expressions.{Lows, Forms, forms}
+use Rattle.sc_tac.specs.declared.stmt.Constant.TheVariants as constant
+use Rattle.sc_lower.specs.Expressions.{Lows, Forms, forms, from_one, lone}
 
 -- code that leaves nothing in a temporary, and the next free one
 pub record Part : Type 0 where
@@ -53,6 +54,18 @@ store_at place value = after (place want.Place) (λ at. just (Store at value ∷
 abbrev pub assign : Forms → Forms → Parts
 assign place value = after (value want.Value) (store_at place)
 
+-- ALLOCATIONS
+-- the number of elements, then a block of as many of `cells` cells each (C11 7.22.3.4)
+abbrev pub allocation : Lows → (cells : ℕ) → Lows
+allocation count cells = from_one count (λ dest x. Alloc dest x cells)
+
+abbrev pub allocate_at : Forms → Lows → (cells : ℕ) → Parts
+allocate_at place count cells = after (allocation count cells) (store_at place)
+
+-- a value is freed (C11 7.22.3.3)
+abbrev pub free_value : Forms → Parts
+free_value pointer = after (pointer want.Value) (λ at. just (Free at ∷ []))
+
 -- CALLS
 abbrev pub first_of : List ℕ → ℕ
 first_of [] = 0
@@ -94,10 +107,18 @@ module _ (structs : List TypedStruct) (params : ℕ) where
   abbrev pub args : TypedCall → List Forms
   args c = map (forms structs params) c.args
 
+  -- the number of elements: one where none stands
+  abbrev pub count_code : Option TypedExpr → Lows
+  count_code None = lone (λ dest. Const dest (constant.Word 1))
+  count_code (Some count) = forms structs params count want.Value
+
   abbrev pub simple_code : TypedSimpleKind → Parts
   simple_code (simple.Assign place value) = assign (forms structs params place) (forms structs params value)
   simple_code (simple.AssignCall place c) = call_for c.target (args c) (store_at (forms structs params place))
   simple_code (simple.Call c) = call_statement c.target (args c)
+  simple_code (simple.Malloc place count cells) =
+      allocate_at (forms structs params place) (count_code count) cells
+  simple_code (simple.Free pointer) = free_value (forms structs params pointer)
 
   -- a part in the head of a `for`, if it is there
   abbrev pub part_code : Option TypedSimple → Parts
@@ -110,6 +131,9 @@ module _ (structs : List TypedStruct) (params : ℕ) where
   kind_step (layer.Assign place value) = assign (forms structs params place) (forms structs params value)
   kind_step (layer.AssignCall place c) = call_for c.target (args c) (store_at (forms structs params place))
   kind_step (layer.Call c) = call_statement c.target (args c)
+  kind_step (layer.Malloc place count cells) =
+      allocate_at (forms structs params place) (count_code count) cells
+  kind_step (layer.Free pointer) = free_value (forms structs params pointer)
   kind_step (layer.If cond first second) =
       after (forms structs params cond want.Value) (fork (in_turn first) (in_turn second))
   kind_step (layer.While cond body) = cycle (test (forms structs params cond)) (in_turn body) (just [])

@@ -2,8 +2,8 @@
 
 ghost use Rattle.sc_lower.specs.Prelude.{IsOperands, Lowered, and_code, binary, binary_code, code_of, constant_of};
 ghost use Rattle.sc_lower.specs.Prelude.{expr_beyond, expr_nodes, forms, fragment_of, most_nodes, move_op, or_code};
-ghost use Rattle.sc_lower.specs.Prelude.{place_code, store_at, truth_code};
-ghost use Rattle.std.specs.Prelude.{◌≡◌, ◌≤◌, ◌<◌, ◌+◌, ℕ, ◌++◌, ◌∷◌, [], suc, None, Some, IfOk};
+ghost use Rattle.sc_lower.specs.Prelude.{place_code, size_of, store_at, truth_code};
+ghost use Rattle.std.specs.Prelude.{IfOk, None, Some, [], suc, ℕ, ◌++◌, ◌+◌, ◌<◌, ◌∷◌, ◌≡◌, ◌≤◌};
 ghost use Rattle.sc_base.specs.declared.op.BinaryOp.TheVariants as op;
 ghost use Rattle.sc_tac.specs.declared.stmt.TacStmt;
 
@@ -26,6 +26,22 @@ fn literal(alloc: Global, ty: Ty, word: u32, free: u32) -> Result<Code, OutOfMem
     let stmt = TacStmt::Const {
         dest: free,
         value: constant_of(ty, word),
+    };
+    lone(alloc, stmt, free)
+}
+
+// The size of a type of `cells` cells (C11 6.5.3.4).
+fn size(alloc: Global, cells: u32, free: u32) -> Result<Code, OutOfMemory>
+    requires { free < most_nodes }
+    ensures { IfOk result (λ code. code ≡ record {
+      stmts = TacStmt.Const free (size_of cells) ∷ [];
+      at = free;
+      next = suc free;
+    }) }
+{
+    let stmt = TacStmt::Const {
+        dest: free,
+        value: Constant::Word(4_u32.wrapping_mul(cells)),
     };
     lone(alloc, stmt, free)
 }
@@ -217,6 +233,7 @@ pub fn lower_expr(
             loaded(place, expr.ty, want)
         }
         TypedKind::Address(of) => lower_expr(alloc, scope, Want::Place, of.get(), free),
+        TypedKind::SizeOf { cells } => size(alloc, *cells, free),
     }
 }
 

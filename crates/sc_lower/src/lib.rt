@@ -6,6 +6,7 @@ mod code;
 mod copies;
 mod expr;
 mod function;
+mod heap;
 mod laws;
 mod nodes;
 mod program;

@@ -1,7 +1,7 @@
 //! How many nodes typed trees have.
 
-ghost use Rattle.sc_lower.specs.Prelude.{call_nodes, expr_nodes, init_nodes, local_nodes, most_nodes, nodes};
-ghost use Rattle.sc_lower.specs.Prelude.{part_nodes, simple_nodes, stmt_nodes, total};
+ghost use Rattle.sc_lower.specs.Prelude.{call_nodes, count_nodes, expr_nodes, init_nodes, local_nodes, most_nodes};
+ghost use Rattle.sc_lower.specs.Prelude.{nodes, part_nodes, simple_nodes, stmt_nodes, total};
 ghost use Rattle.std.specs.Prelude.{◌≡◌, ◌≤◌, ◌+◌, suc, map, length};
 
 use sc_core::{
@@ -25,6 +25,7 @@ fn expr_nodes(expr: &TypedExpr) -> u32
         TypedKind::Arrow { base, .. } => 1 + expr_nodes(base.get()),
         TypedKind::Deref(of) => 1 + expr_nodes(of.get()),
         TypedKind::Address(of) => 1 + expr_nodes(of.get()),
+        TypedKind::SizeOf { .. } => 1,
     }
 }
 
@@ -39,6 +40,16 @@ fn call_nodes(call: &TypedCall) -> u32
     count
 }
 
+fn count_nodes(count: &Option<TypedExpr>) -> u32
+    requires { count_nodes count.now ≤ most_nodes }
+    ensures { result ≡ count_nodes count.now }
+{
+    match count {
+        None => 0,
+        Some(count) => expr_nodes(count),
+    }
+}
+
 fn simple_nodes(kind: &TypedSimpleKind) -> u32
     requires { simple_nodes kind.now ≤ most_nodes }
     ensures { result ≡ simple_nodes kind.now }
@@ -51,6 +62,10 @@ fn simple_nodes(kind: &TypedSimpleKind) -> u32
             1 + expr_nodes(place.get()) + call_nodes(call)
         }
         TypedSimpleKind::Call(call) => 1 + call_nodes(call),
+        TypedSimpleKind::Malloc { place, count, .. } => {
+            1 + expr_nodes(place.get()) + count_nodes(count)
+        }
+        TypedSimpleKind::Free(pointer) => 1 + expr_nodes(pointer),
     }
 }
 
@@ -89,6 +104,10 @@ fn stmt_nodes(stmt: &TypedStmt) -> u32
             1 + expr_nodes(place.get()) + call_nodes(call)
         }
         TypedStmtKind::Call(call) => 1 + call_nodes(call),
+        TypedStmtKind::Malloc { place, count, .. } => {
+            1 + expr_nodes(place.get()) + count_nodes(count)
+        }
+        TypedStmtKind::Free(pointer) => 1 + expr_nodes(pointer),
         TypedStmtKind::If {
             cond,
             then_part,

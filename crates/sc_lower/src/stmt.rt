@@ -10,6 +10,7 @@ ghost use Rattle.sc_tac.specs.declared.stmt.TacStmt;
 use crate::calls::{lower_call, lower_return_call, store_call};
 use crate::code::{Code, Fragment, Scope, after, ended, nothing, single};
 use crate::expr::{lower_expr, lower_store};
+use crate::heap::{lower_free, lower_malloc};
 use sc_base::OutOfMemory;
 use sc_core::{
     TypedExpr, TypedPlace, TypedSimple, TypedSimpleKind, TypedStmt, TypedStmtKind, TypedStmts, Want,
@@ -96,6 +97,12 @@ fn lower_simple(
         TypedSimpleKind::Assign { place, value } => lower_assign(alloc, scope, place, value, free),
         TypedSimpleKind::AssignCall { place, call } => store_call(alloc, scope, place, call, free),
         TypedSimpleKind::Call(call) => lower_call(alloc, scope, call, free),
+        TypedSimpleKind::Malloc {
+            place,
+            count,
+            cells,
+        } => lower_malloc(alloc, scope, place, count, *cells, free),
+        TypedSimpleKind::Free(pointer) => lower_free(alloc, scope, pointer, free),
     }
 }
 
@@ -203,6 +210,12 @@ fn lower_stmt(
         TypedStmtKind::Assign { place, value } => lower_assign(alloc, scope, place, value, free),
         TypedStmtKind::AssignCall { place, call } => store_call(alloc, scope, place, call, free),
         TypedStmtKind::Call(call) => lower_call(alloc, scope, call, free),
+        TypedStmtKind::Malloc {
+            place,
+            count,
+            cells,
+        } => lower_malloc(alloc, scope, place, count, *cells, free),
+        TypedStmtKind::Free(pointer) => lower_free(alloc, scope, pointer, free),
         TypedStmtKind::If {
             cond,
             then_part,

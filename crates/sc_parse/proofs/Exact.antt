@@ -1,49 +1,21 @@
 -- Readers that read exactly what is spelled, of single items and of lists.
 use Rattle.sc_parse.proofs.Common.{Adder, Bool, Grouped, IsIdent, IsKeyword, IsMark, Keyword, Lexeme, List, Mark, None}
-use Rattle.sc_parse.proofs.Common.{Option, Reader, Separated, Some, Symbol, [], adds, all_separated, ap, append-nil}
+use Rattle.sc_parse.proofs.Common.{Option, Reader, Separated, Some, [], adds, all_separated, ap, append-nil}
 use Rattle.sc_parse.proofs.Common.{append_assoc, arith, before_mark, bound, cond, drop, ended_by, false, first_mark}
-use Rattle.sc_parse.proofs.Common.{following, glued, grouped, highest, is_mark, keyword_at, keyword_by, length}
+use Rattle.sc_parse.proofs.Common.{following, glued, grouped, highest, is_mark, keyword_at, length}
 use Rattle.sc_parse.proofs.Common.{length-append, map, max, more, name_ahead, name_at, next, none, none-some, one}
-use Rattle.sc_parse.proofs.Common.{option_map_or, refl, same_some, separated, subst, suc, sym, true, zero, ℕ, ◌++◌, ◌+◌}
+use Rattle.sc_parse.proofs.Common.{option_map_or, refl, separated, subst, suc, sym, true, zero, ℕ, ◌++◌, ◌+◌}
 use Rattle.sc_parse.proofs.Common.{◌<◌, ◌>>=◌, ◌∙◌, ◌∷◌, ◌≡◌, ◌≤◌}
 use Rattle.sc_parse_expr.specs.declared.mark.Mark.TheVariants as mark
 use Rattle.sc_parse_expr.specs.declared.lexeme.Symbol.TheVariants as symbol
 use Rattle.sc_parse_expr.specs.contracts.mark.Mark.{the_type}
 use denote.Enum.Bare.{true_same}
-
--- what is read at the start, as forms that lexemes have and properties of what follows
-abbrev pub Form : Type 0 → Type 1
-Form A = List Lexeme → A → Type 0
-
-abbrev pub Property : Type 1
-Property = List Lexeme → Type 0
-
--- A prefix of the lexemes, with what it spells.
-pub record Taken {A : Type 0} (Item : Form A) (ts : List Lexeme) (x : A) (rest : List Lexeme) : Type 0 where
-  pub taken : List Lexeme
-  pub split : ts ≡ taken ++ rest
-  pub spelled : Item taken x
-
--- What is read is spelled so.
-abbrev pub Sound : {A : Type 0} → Form A → Reader A → Type 0
-Sound {A} Item reader = (ts rest : List Lexeme) (x : A) → reader ts ≡ Some (x, rest) → Taken Item ts x rest
-
--- What is spelled so is read, where it fits and ends there.
-abbrev pub Complete : {A : Type 0} → Property → Form A → Property → Reader A → Type 0
-Complete {A} Fits Item Ends reader = (ts : List Lexeme) (x : A) → Item ts x → (rest : List Lexeme) → Fits ts →
-    Ends rest → reader (ts ++ rest) ≡ Some (x, rest)
+pub use Rattle.sc_parse_expr.proofs.Taken.{Any, Complete, Exact, Form, Property, Sound, Taken, Word, same_pair, took}
+pub use Rattle.sc_parse_expr.proofs.Taken.{word_ahead}
 
 -- What has one form has the other.
 abbrev pub Turns : {A : Type 0} → Form A → Form A → Type 0
 Turns {A} Item Other = (ts : List Lexeme) (x : A) → Item ts x → Other ts x
-
-pub record Exact {A : Type 0} (Fits : Property) (Item : Form A) (Ends : Property) (reader : Reader A) : Type 0 where
-  pub sound : Sound Item reader
-  pub complete : Complete Fits Item Ends reader
-
--- all lexemes fit
-abbrev pub Any : Property
-Any ts = Unit {0}
 
 -- What fits as a whole fits in parts.
 pub record Hereditary (Fits : Property) : Type 0 where
@@ -64,15 +36,6 @@ pub given : {A B P : Type 0} (f : A → B) (o : Option A) (other : B) {w : B} �
     (o ≡ None → other ≡ w → P) → ((x : A) → o ≡ Some x → f x ≡ w → P) → P
 given f None other h without with = without refl h
 given f (Some x) other h without with = with x refl h
-
-pub same_pair : {A B : Type 0} {x y : A × B} → Some x ≡ Some y → (x.0 ≡ y.0) × (x.1 ≡ y.1)
-same_pair h = let same = same_some h in (ap (λ p. p.0) same, ap (λ p. p.1) same)
-
-pub took : {A : Type 0} {Item : Form A} {ts us rest : List Lexeme} {x y : A} (taken : List Lexeme) →
-    ◌≡◌ {A = Option (A × List Lexeme)} (Some (y, us)) (Some (x, rest)) → ts ≡ taken ++ us → Item taken y →
-    Taken Item ts x rest
-took {Item = Item} {ts = ts} taken h split spelled =
-    subst (λ p. Taken Item ts p.0 p.1) (same_some h) (record { taken = taken; split = split; spelled = spelled })
 
 -- What is spelled so and at most `room` high.
 abbrev pub Low : {A : Type 0} → Form A → (A → ℕ) → ℕ → Form A
@@ -153,20 +116,6 @@ pub first_taken : {A : Type 0} {Item Other : Form A} {ts us rest : List Lexeme} 
     Taken Item us x rest → ((vs : List Lexeme) → Item vs x → Other (t ∷ vs) x) → Taken Other ts x rest
 first_taken t is d make =
     record { taken = t ∷ d.taken; split = is ∙ ap (λ l. t ∷ l) d.split; spelled = make d.taken d.spelled }
-
-keyword_is : (s : Symbol) (word : Keyword) → keyword_by s ≡ Some word → s ≡ symbol.Keyword word
-keyword_is (symbol.Keyword other) word h = ap (λ w. symbol.Keyword w) (same_some h)
-keyword_is _ word h = absurd (none-some word h)
-
--- the lexemes begin with a reserved word
-pub record Word (ts : List Lexeme) (word : Keyword) : Type 0 where
-  pub first : Lexeme
-  pub is : ts ≡ first ∷ drop 1 ts
-  pub keyword : IsKeyword word first
-
-pub word_ahead : (ts : List Lexeme) (word : Keyword) → keyword_at ts ≡ Some word → Word ts word
-word_ahead [] word h = absurd (none-some word h)
-word_ahead (t ∷ ts) word h = record { first = t; is = refl; keyword = keyword_is _ word h }
 
 pub word_taken : {A : Type 0} {Item : Form A} (ts : List Lexeme) {rest : List Lexeme} {x : A} {word : Keyword} →
     keyword_at ts ≡ Some word → Taken Item (drop 1 ts) x rest → Taken (AfterWord word Item) ts x rest

@@ -1,17 +1,19 @@
 -- Expressions in statements, and calls, are read exactly as they are spelled.
-use Rattle.sc_parse.proofs.Common.{Bool, CallTree, ExprTree, Lexeme, List, Mark, None, Prefix, Separated, Some, Spells}
-use Rattle.sc_parse.proofs.Common.{SpellsArgs, SpellsCall, Symbol, [], add_arg, all_separated, ap, append_assoc}
-use Rattle.sc_parse.proofs.Common.{args_at, arith, arrow, begins_call, begins_with, binary_of, bound, call, call_at}
-use Rattle.sc_parse.proofs.Common.{call_height, call_tree, expr_at, expr_height, exprs_height, extension_at, false}
-use Rattle.sc_parse.proofs.Common.{false_from_ne_true, false≢true, following, found, index, is_some, joined, lead_by}
-use Rattle.sc_parse.proofs.Common.{literal, looser, loosest_level, member, more, most_open, no_args, none-some, one}
-use Rattle.sc_parse.proofs.Common.{open_after, open_after_mark, open_low, parenthesised, prefix, prefix_of, read}
+use Rattle.sc_parse.proofs.Common.{[], Bool, CallTree, ExprTree, Keyword, Lexeme, List, Mark, None, Option, Prefix}
+use Rattle.sc_parse.proofs.Common.{Separated, Some, Spells, SpellsArgs, SpellsCall, SpellsCondition, Symbol, add_arg}
+use Rattle.sc_parse.proofs.Common.{all_separated, ap, append_assoc, condition, condition_at, keyword_at, keyword_by}
+use Rattle.sc_parse.proofs.Common.{size_of, args_at, arith, arrow, begins_call, begins_with, binary_of, bound, call}
+use Rattle.sc_parse.proofs.Common.{call_at, call_height, call_tree, expr_at, expr_height, exprs_height, extension_at}
+use Rattle.sc_parse.proofs.Common.{false, false_from_ne_true, false≢true, following, found, index, is_some, joined}
+use Rattle.sc_parse.proofs.Common.{lead_by, literal, looser, loosest_level, member, more, most_open, no_args, none-some}
+use Rattle.sc_parse.proofs.Common.{one, open_after, open_after_mark, open_low, parenthesised, prefix, prefix_of, read}
 use Rattle.sc_parse.proofs.Common.{read_sound, refl, some_args, sym, true, variable, ℕ, ◌++◌, ◌∙◌, ◌∷◌, ◌≡◌, ◌≤◌}
 use Rattle.sc_parse.proofs.Bases.{other_mark, mark_is}
 use Rattle.sc_parse.proofs.Exact.{Any, Between, Complete, Exact, Form, Hereditary, IsName, Low, Made, Property, Then}
 use Rattle.sc_parse.proofs.Exact.{Turns, a_name, after_mark, as_form, before, between_exact, both, chosen, commas_exact}
 use Rattle.sc_parse.proofs.Exact.{formed_exact, from_none, items_apart, items_joined, made, made_exact, name_exact}
 use Rattle.sc_parse.proofs.Exact.{then_exact, took}
+use Rattle.sc_parse_expr.specs.declared.mark.Keyword.TheVariants as word
 use Rattle.sc_parse_expr.specs.declared.mark.Mark.TheVariants as mark
 use Rattle.sc_parse_expr.specs.declared.lexeme.Symbol.TheVariants as symbol
 use Rattle.sc_parse_expr.proofs.Complete.{reads_all}
@@ -77,17 +79,55 @@ expr_exact free room = record {
   complete = λ ts x d rest fits ends. rw (level_reads free d.0 room rest (omega arith) d.1 fits ends);
 }
 
+-- a condition that is at most `room` high
+abbrev pub IsCondition : ℕ → Form ExprTree
+IsCondition room = Low SpellsCondition expr_height room
+
+pub condition_exact : (free room : ℕ) → Exact (Few free) (IsCondition room) Any (condition_at free room)
+unfolding condition_at
+condition_exact free room = formed_exact (between_exact (few free) mark.OpenParen mark.CloseParen
+    (expr_exact free room) (λ t rest p. rw p)) joined_condition condition_apart (λ rest h. h)
+  where
+    joined_condition : Turns (Between mark.OpenParen mark.CloseParen (IsExpr room)) (IsCondition room)
+    joined_condition _ _ (after_mark t p (before u q d)) = (condition t u p q d.0, d.1)
+
+    condition_apart : Turns (IsCondition room) (Between mark.OpenParen mark.CloseParen (IsExpr room))
+    condition_apart _ _ (condition t u p q d, low) = after_mark t p (before u q (d, low))
+
+-- the reserved word that begins an expression
+abbrev leads_expr : Keyword → Bool
+leads_expr word.Sizeof = true
+leads_expr _ = false
+
 -- what begins an expression
 unfoldable pub starts_expr : Symbol → Bool
 starts_expr (symbol.Ident name) = true
 starts_expr (symbol.Integer number) = true
 starts_expr (symbol.Mark m) = is_some (lead_by m)
+starts_expr (symbol.Keyword w) = leads_expr w
 starts_expr _ = false
 
 unfoldable pub begins_expr : List Lexeme → Bool
 unfolding starts_expr
 begins_expr [] = false
 begins_expr (t ∷ ts) = starts_expr t.symbol
+
+-- what has this value where no reserved word stands and at `sizeof` has it where an expression begins
+module _ {A : Type 0} (f : Option Keyword → A) (value : A) (none : f None ≡ value) (size : f (Some word.Sizeof) ≡ value)
+  where
+    leading_word : (w : Keyword) → leads_expr w ≡ true → f (Some w) ≡ value
+    leading_word word.Sizeof h = size
+    leading_word _ h = absurd (false≢true h)
+
+    symbol_word : (s : Symbol) → starts_expr s ≡ true → f (keyword_by s) ≡ value
+    unfolding starts_expr
+    symbol_word (symbol.Keyword w) h = leading_word w h
+    symbol_word _ h = none
+
+    pub expr_word : (ts : List Lexeme) → begins_expr ts ≡ true → f (keyword_at ts) ≡ value
+    unfolding begins_expr
+    expr_word [] h = none
+    expr_word (t ∷ ts) h = symbol_word _ h
 
 prefix_leads : (m : Mark) (p : Prefix) → prefix_of m ≡ Some p → is_some (lead_by m) ≡ true
 prefix_leads mark.Minus p h = refl
@@ -103,6 +143,7 @@ pub expr_starts : {level : ℕ} {ts : List Lexeme} {e : ExprTree} (d : Spells le
 unfolding begins_expr starts_expr
 expr_starts (literal t number p) rest = rw p
 expr_starts (variable t name p) rest = rw p
+expr_starts (size_of t u v p q r d) rest = rw p
 expr_starts (parenthesised t u p q d) rest = rw p
 expr_starts (index {ts = ts} {us = us} t u p q d g) rest =
     ap begins_expr (append_assoc ts _ rest) ∙ expr_starts d (t ∷ (us ++ u ∷ []) ++ rest)
@@ -187,6 +228,7 @@ pub no_call : {level : ℕ} {ts : List Lexeme} {e : ExprTree} (d : Spells level 
     begins_with mark.OpenParen rest ≡ false → begins_call (ts ++ rest) ≡ false
 no_call (literal t number p) rest h = rw p
 no_call (variable t name p) rest h = rw (p, h)
+no_call (size_of t u v p q r d) rest h = rw p
 no_call (parenthesised t u p q d) rest h = rw p
 no_call (index {ts = ts} {us = us} t u p q d g) rest h =
     ap begins_call (append_assoc ts _ rest) ∙ no_call d (t ∷ (us ++ u ∷ []) ++ rest) (rw p)

@@ -5,6 +5,7 @@ pub mod Bases
 pub mod Declared
 pub mod Prototypes
 pub mod Expressions
+pub mod Mallocs
 pub mod Simples
 pub mod Parts
 pub mod Nested

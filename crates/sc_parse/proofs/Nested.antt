@@ -1,15 +1,15 @@
 -- Blocks and the statements that hold them are read exactly as they are spelled.
-use Rattle.sc_parse.proofs.Common.{ExprTree, Grouped, IsKeyword, IsMark, Keyword, Lexeme, List, None, Option, Reader}
-use Rattle.sc_parse.proofs.Common.{SimpleKind, Some, SpellsBlock, SpellsIf, SpellsStmts, StmtKind, StmtTree, []}
-use Rattle.sc_parse.proofs.Common.{after_else, after_for, after_if, after_while, ap, append-nil, append_assoc, arith}
-use Rattle.sc_parse.proofs.Common.{begins_with, block, block_at, bound, choice, cond, drop, else_at, empty, ended_at}
-use Rattle.sc_parse.proofs.Common.{false, false≢true, first_line, first_part, for_head, for_height, for_loop, for_parts}
+use Rattle.sc_parse.proofs.Common.{[], ExprTree, Grouped, IsKeyword, IsMark, Keyword, Lexeme, List, Option, Reader}
+use Rattle.sc_parse.proofs.Common.{SimpleKind, Some, SpellsBlock, SpellsIf, SpellsStmts, StmtKind, StmtTree, after_else}
+use Rattle.sc_parse.proofs.Common.{after_for, after_if, after_while, ap, append-nil, append_assoc, arith, begins_with}
+use Rattle.sc_parse.proofs.Common.{block, block_at, bound, choice, cond, drop, else_at, empty, ended_at, false}
+use Rattle.sc_parse.proofs.Common.{false≢true, first_line, first_part, for_head, for_height, for_loop, for_parts}
 use Rattle.sc_parse.proofs.Common.{if_height, is_else, is_if, keyword_at, kind_by, kind_height, stmt_kind_of, last_part}
 use Rattle.sc_parse.proofs.Common.{lone_if, loop_of, middle_part, none-some, otherwise, otherwise_if, plain_at}
 use Rattle.sc_parse.proofs.Common.{plain_height, refl, return_call, return_call_height, return_nothing, return_value}
-use Rattle.sc_parse.proofs.Common.{returned, simple_at, stmt_at, stmt_tree, stmt_within, stmts_at, stmts_height, subst}
-use Rattle.sc_parse.proofs.Common.{suc, sym, tree_height, true, value_height, while_height, while_loop, zero, ℕ, ◌++◌}
-use Rattle.sc_parse.proofs.Common.{◌<◌, ◌∙◌, ◌∷◌, ◌≡◌, ◌≤◌}
+use Rattle.sc_parse.proofs.Common.{returned, simple_at, simple_or_none, stmt_at, stmt_tree, stmt_within, stmts_at}
+use Rattle.sc_parse.proofs.Common.{stmts_height, subst, suc, sym, tree_height, true, value_height, while_height}
+use Rattle.sc_parse.proofs.Common.{while_loop, zero, ℕ, ◌++◌, ◌<◌, ◌∙◌, ◌∷◌, ◌≡◌, ◌≤◌}
 use Rattle.sc_parse.specs.Statements.{plain}
 use Rattle.sc_ast.specs.declared.stmt.StmtKind.TheVariants as stmt
 use Rattle.sc_parse_expr.specs.declared.mark.Keyword.TheVariants as word
@@ -23,12 +23,11 @@ use Rattle.sc_parse.proofs.Exact.{after_word, between_exact, both, chosen, fits_
 use Rattle.sc_parse.proofs.Exact.{first_taken, grouped_exact, made, made_exact, single, then_exact, took, word_ahead}
 use Rattle.sc_parse.proofs.Exact.{word_taken}
 use Rattle.sc_parse.proofs.Bases.{mark_is}
-use Rattle.sc_parse.proofs.Expressions.{Few, call_begins, call_exact, call_starts, expr_exact, expr_starts, few}
-use Rattle.sc_parse.proofs.Expressions.{no_call, no_mark}
+use Rattle.sc_parse.proofs.Expressions.{Few, IsCondition, condition_exact, call_begins, call_exact, call_starts}
+use Rattle.sc_parse.proofs.Expressions.{expr_exact, expr_starts, few, no_call, no_mark}
 use Rattle.sc_parse.proofs.Simples.{simple_exact}
-use Rattle.sc_parse.proofs.Parts.{IsCondition, IsPart, IsTest, condition_exact, first_line_some, kind_no_mark}
-use Rattle.sc_parse.proofs.Parts.{kind_no_word, part_exact, test_exact, IsKind, IsStmt, NoElse, Starts, a_stmt}
-use Rattle.sc_parse.proofs.Parts.{ended_sound, kind_starts, stmt_starts}
+use Rattle.sc_parse.proofs.Parts.{IsPart, IsTest, first_line_some, kind_no_mark, kind_word, part_exact, test_exact}
+use Rattle.sc_parse.proofs.Parts.{IsKind, IsStmt, NoElse, Starts, a_stmt, ended_sound, kind_starts, stmt_starts}
 
 -- lexemes that begin with `}` don't begin with `else`
 end_no_else : (rest : List Lexeme) → begins_with mark.CloseCurly rest ≡ true → NoElse rest
@@ -84,9 +83,10 @@ block_no_if : {ts : List Lexeme} {ss : List StmtTree} (d : SpellsBlock ts ss) (r
 block_no_if (block t u p q d) rest = rw p
 
 plain_ended : (free : ℕ) → (room : ℕ) (ts : List Lexeme) (t : Lexeme) (rest : List Lexeme) (k : SimpleKind) →
-    IsMark mark.Semicolon t → keyword_at ts ≡ None → begins_with mark.Semicolon ts ≡ false →
-    simple_at free room ts ≡ Some (k, t ∷ rest) → ended_at free room ts ≡ Some (stmt_kind_of k, rest)
-unfolding ended_at plain_at
+    IsMark mark.Semicolon t → plain_at free room (keyword_at ts) ts ≡ simple_or_none free room ts →
+    begins_with mark.Semicolon ts ≡ false → simple_at free room ts ≡ Some (k, t ∷ rest) →
+    ended_at free room ts ≡ Some (stmt_kind_of k, rest)
+unfolding ended_at
 plain_ended free room ts t rest k p none other read = rw (none, other, read, p)
 
 -- what follows the words `if`, `while` and `for`, in parts that are at most `room` high
@@ -238,9 +238,9 @@ module _ (free : ℕ) (room : ℕ) (inner : Reader StmtTree) (exact : Exact (Few
       let height = plain_height k in
       let read = (simple_exact free room).complete ts k (d, omega arith) (t ∷ rest)
       ((few free).left ts (t ∷ []) fits) (rw p, rw p) in
-      let none = kind_no_word d (t ∷ rest) in
+      let none = kind_word (λ o. plain_at free room o (ts ++ t ∷ rest)) _ refl refl refl d (t ∷ rest) in
       ap (λ l. kind_by free inner room (keyword_at l) l) (append_assoc ts (t ∷ []) rest)
-      ∙ ap (λ o. kind_by free inner room o (ts ++ t ∷ rest)) none
+      ∙ kind_word (λ o. kind_by free inner room o (ts ++ t ∷ rest)) _ refl refl refl d (t ∷ rest)
       ∙ plain_ended free room (ts ++ t ∷ rest) t rest k p none (kind_no_mark mark.Semicolon refl refl d (t ∷ rest)) read
   kind_complete _ _ (statements.break t u p q, low) rest fits ends = rw (p, q)
   kind_complete _ _ (statements.continue t u p q, low) rest fits ends = rw (p, q)

@@ -1,47 +1,28 @@
 -- Conditions, the parts of a `for`, and statements that hold no others are read exactly as they are spelled.
-use Rattle.sc_parse.proofs.Common.{CallTree, ExprTree, IsKeyword, IsMark, Keyword, Lexeme, List, Mark, None, Option}
-use Rattle.sc_parse.proofs.Common.{SimpleKind, SimpleTree, Some, Spells, SpellsCall, SpellsCondition, SpellsIf}
-use Rattle.sc_parse.proofs.Common.{SpellsKind, SpellsPart, SpellsStmtKind, SpellsTest, StmtKind, StmtTree, Symbol, []}
-use Rattle.sc_parse.proofs.Common.{a_part, a_test, ap, append_assoc, arith, assign, assign_call, begins_with, bound}
-use Rattle.sc_parse.proofs.Common.{break_height, call, choice, compound, cond, cond_is, condition, condition_at}
-use Rattle.sc_parse.proofs.Common.{continue_height, drop, empty, empty_height, ended_at, expr_height, false, false≢true}
-use Rattle.sc_parse.proofs.Common.{first_line, first_mark, for_loop, glued, is_base, is_else, is_if, is_some}
-use Rattle.sc_parse.proofs.Common.{keyword_at, keyword_by, kind_height, stmt_kind_of, le-leb, lead_by, leb, leb-true}
-use Rattle.sc_parse.proofs.Common.{length}
-use Rattle.sc_parse.proofs.Common.{length-append, lone_if, no_base, no_part, no_test, not, option_height, otherwise}
-use Rattle.sc_parse.proofs.Common.{otherwise_if, part_at, plain_at, plain_height, read, refl, return_call}
-use Rattle.sc_parse.proofs.Common.{return_call_height, return_height, return_nothing, return_value, returned, simple_at}
-use Rattle.sc_parse.proofs.Common.{simple_or_none, simple_tree, step_after, step_before, step_of, stmt_tree, sym}
-use Rattle.sc_parse.proofs.Common.{test_at, true, value_height, value_returned, while_loop, ℕ, ◌++◌, ◌-◌, ◌<◌, ◌>>=◌}
-use Rattle.sc_parse.proofs.Common.{◌∙◌, ◌∷◌, ◌≡◌, ◌≤◌}
+use Rattle.sc_parse.proofs.Common.{[], CallTree, ExprTree, IsKeyword, IsMark, Keyword, Lexeme, List, Mark, None, Option}
+use Rattle.sc_parse.proofs.Common.{SimpleKind, SimpleTree, Some, Spells, SpellsCall, SpellsIf, SpellsKind, SpellsPart}
+use Rattle.sc_parse.proofs.Common.{SpellsStmtKind, SpellsTest, StmtKind, StmtTree, allocate, release, a_part, a_test}
+use Rattle.sc_parse.proofs.Common.{ap, append_assoc, arith, assign, assign_call, begins_with, bound, break_height, call}
+use Rattle.sc_parse.proofs.Common.{choice, compound, cond, cond_is, condition, continue_height, drop, empty}
+use Rattle.sc_parse.proofs.Common.{empty_height, ended_at, expr_height, false, false≢true, first_line, first_mark}
+use Rattle.sc_parse.proofs.Common.{for_loop, glued, is_base, is_else, is_if, is_some, keyword_at, kind_height}
+use Rattle.sc_parse.proofs.Common.{stmt_kind_of, le-leb, lead_by, leb, leb-true, length, length-append, lone_if}
+use Rattle.sc_parse.proofs.Common.{no_base, no_part, no_test, not, option_height, otherwise, otherwise_if, part_at}
+use Rattle.sc_parse.proofs.Common.{plain_at, plain_height, read, refl, return_call, return_call_height, return_height}
+use Rattle.sc_parse.proofs.Common.{return_nothing, return_value, returned, simple_at, simple_or_none, simple_tree}
+use Rattle.sc_parse.proofs.Common.{step_after, step_before, step_of, stmt_tree, sym, test_at, true, value_height}
+use Rattle.sc_parse.proofs.Common.{value_returned, while_loop, ℕ, ◌++◌, ◌-◌, ◌<◌, ◌>>=◌, ◌∙◌, ◌∷◌, ◌≡◌, ◌≤◌}
 use Rattle.sc_parse_expr.specs.declared.mark.Mark.TheVariants as mark
-use Rattle.sc_parse_expr.specs.declared.lexeme.Symbol.TheVariants as symbol
 use Rattle.sc_parse.specs.Statements as statements
-use Rattle.sc_parse.proofs.Exact.{Any, Between, Complete, Exact, Form, Low, Property, Turns, after_mark, as_form}
-use Rattle.sc_parse.proofs.Exact.{before, between_exact, chosen, formed_exact, took, Sound, Taken, first_taken}
-use Rattle.sc_parse.proofs.Exact.{made_exact, made_of, word_ahead}
+use Rattle.sc_parse.proofs.Exact.{Complete, Exact, Form, Low, Property, as_form, chosen, took, Sound, Taken}
+use Rattle.sc_parse.proofs.Exact.{first_taken, made_exact, made_of, word_ahead}
 use Rattle.sc_parse.proofs.Bases.{other_mark}
-use Rattle.sc_parse.proofs.Expressions.{Few, IsExpr, NoExtension, begins_expr, call_starts, expr_exact, expr_starts}
-use Rattle.sc_parse.proofs.Expressions.{few, no_mark, starts_expr, call_exact}
+use Rattle.sc_parse.proofs.Expressions.{Few, NoExtension, begins_expr, call_starts, expr_exact, expr_starts, expr_word}
+use Rattle.sc_parse.proofs.Expressions.{no_mark, call_exact}
 use Rattle.sc_parse.proofs.Simples.{EndsSimple, simple_exact, one_height}
 use Rattle.sc_parse.specs.Statements.{plain}
 use Rattle.sc_ast.specs.declared.stmt.StmtKind.TheVariants as stmt
 use Rattle.sc_parse_expr.specs.declared.mark.Keyword.TheVariants as word
-
--- a condition that is at most `room` high
-abbrev pub IsCondition : ℕ → Form ExprTree
-IsCondition room = Low SpellsCondition expr_height room
-
-pub condition_exact : (free room : ℕ) → Exact (Few free) (IsCondition room) Any (condition_at free room)
-unfolding condition_at
-condition_exact free room = formed_exact (between_exact (few free) mark.OpenParen mark.CloseParen
-    (expr_exact free room) (λ t rest p. rw p)) joined_condition condition_apart (λ rest h. h)
-  where
-    joined_condition : Turns (Between mark.OpenParen mark.CloseParen (IsExpr room)) (IsCondition room)
-    joined_condition _ _ (after_mark t p (before u q d)) = (condition t u p q d.0, d.1)
-
-    condition_apart : Turns (IsCondition room) (Between mark.OpenParen mark.CloseParen (IsExpr room))
-    condition_apart _ _ (condition t u p q d, low) = after_mark t p (before u q (d, low))
 
 call_some : {ts : List Lexeme} {x : CallTree} (d : SpellsCall ts x) → 0 < length ts
 call_some (statements.call t u v name p q r d) = omega arith
@@ -53,48 +34,47 @@ kind_some (compound {ts = ts} {us = us} t m op p q d v) = omega (arith, length-a
 kind_some (call d) = call_some d
 kind_some (step_after {ts = ts} t m op p q d) = omega (arith, length-append ts (t ∷ []))
 kind_some (step_before t m op p q d) = omega arith
+kind_some (allocate {ts = ts} {us = us} t u p q d c) = omega (arith, length-append ts (t ∷ u ∷ us))
+kind_some (release t p c) = omega arith
 
 pub first_line_some : (ts rest : List Lexeme) → 0 < length ts → first_line (ts ++ rest) ≡ first_line ts
 first_line_some [] rest h = absurd (omega arith)
 first_line_some (t ∷ ts) rest h = refl
-
-symbol_no_word : (s : Symbol) → starts_expr s ≡ true → keyword_by s ≡ None
-unfolding starts_expr
-symbol_no_word (symbol.Keyword w) h = absurd (false≢true h)
-symbol_no_word _ h = refl
-
-pub expr_no_word : (ts : List Lexeme) → begins_expr ts ≡ true → keyword_at ts ≡ None
-unfolding begins_expr
-expr_no_word [] h = refl
-expr_no_word (t ∷ ts) h = symbol_no_word _ h
 
 after_place : {A : Type 0} (f : List Lexeme → A) (value : A) {level : ℕ} {ts : List Lexeme} {e : ExprTree}
     (d : Spells level ts e) (us rest : List Lexeme) → ((l : List Lexeme) → begins_expr l ≡ true → f l ≡ value) →
     f ((ts ++ us) ++ rest) ≡ value
 after_place f value {level} {ts} d us rest h = ap f (append_assoc ts us rest) ∙ h _ (expr_starts d _)
 
--- what begins a simple statement: an expression or a step
+-- what begins a simple statement: an expression, a step, or `free`
 kind_start : {A : Type 0} (f : List Lexeme → A) (value : A) → ((l : List Lexeme) → begins_expr l ≡ true → f l ≡ value) →
     ((t : Lexeme) (m : Mark) (l : List Lexeme) → IsMark m t → is_some (step_of m) ≡ true → f (t ∷ l) ≡ value) →
+    ((t : Lexeme) (l : List Lexeme) → IsKeyword word.Free t → f (t ∷ l) ≡ value) →
     {ts : List Lexeme} {k : SimpleKind} (d : SpellsKind ts k) (rest : List Lexeme) → f (ts ++ rest) ≡ value
-kind_start f value by_expr by_step (assign {us = us} t p d v) rest = after_place f value d.0 (t ∷ us) rest by_expr
-kind_start f value by_expr by_step (assign_call {us = us} t p d v) rest = after_place f value d.0 (t ∷ us) rest by_expr
-kind_start f value by_expr by_step (compound {us = us} t m op p q d v) rest =
+kind_start f value by_expr by_step by_free (assign {us = us} t p d v) rest = after_place f value d.0 (t ∷ us) rest by_expr
+kind_start f value by_expr by_step by_free (assign_call {us = us} t p d v) rest =
     after_place f value d.0 (t ∷ us) rest by_expr
-kind_start f value by_expr by_step (call d) rest = by_expr _ (call_starts d rest)
-kind_start f value by_expr by_step (step_after t m op p q d) rest = after_place f value d.0 (t ∷ []) rest by_expr
-kind_start f value by_expr by_step (step_before t m op p q d) rest = by_step t m _ p (ap is_some q)
+kind_start f value by_expr by_step by_free (compound {us = us} t m op p q d v) rest =
+    after_place f value d.0 (t ∷ us) rest by_expr
+kind_start f value by_expr by_step by_free (call d) rest = by_expr _ (call_starts d rest)
+kind_start f value by_expr by_step by_free (step_after t m op p q d) rest = after_place f value d.0 (t ∷ []) rest by_expr
+kind_start f value by_expr by_step by_free (step_before t m op p q d) rest = by_step t m _ p (ap is_some q)
+kind_start f value by_expr by_step by_free (allocate {us = us} t u p q d c) rest =
+    after_place f value d.0 (t ∷ u ∷ us) rest by_expr
+kind_start f value by_expr by_step by_free (release t p c) rest = by_free t _ p
 
--- no reserved word begins a simple statement
-pub kind_no_word : {ts : List Lexeme} {k : SimpleKind} (d : SpellsKind ts k) (rest : List Lexeme) →
-    keyword_at (ts ++ rest) ≡ None
-kind_no_word d rest = kind_start keyword_at None expr_no_word (λ t m l p q. rw p) d rest
+-- only two reserved words begin a simple statement
+pub kind_word : {A : Type 0} (f : Option Keyword → A) (value : A) → f None ≡ value → f (Some word.Sizeof) ≡ value →
+    f (Some word.Free) ≡ value → {ts : List Lexeme} {k : SimpleKind} (d : SpellsKind ts k) (rest : List Lexeme) →
+    f (keyword_at (ts ++ rest)) ≡ value
+kind_word f value none size free d rest = kind_start (λ l. f (keyword_at l)) value (expr_word f value none size)
+    (λ t m l p q. rw p none) (λ t l p. rw p free) d rest
 
 -- a mark that begins neither an expression nor a step doesn't begin a simple statement
 pub kind_no_mark : (m : Mark) → is_some (lead_by m) ≡ false → is_some (step_of m) ≡ false →
     {ts : List Lexeme} {k : SimpleKind} (d : SpellsKind ts k) (rest : List Lexeme) → begins_with m (ts ++ rest) ≡ false
 kind_no_mark m h s d rest = kind_start (begins_with m) false (no_mark m h) (λ t n l p q. other_mark m n t p
-    (λ same. false≢true (sym s ∙ ap (λ k. is_some (step_of k)) (sym same) ∙ q))) d rest
+    (λ same. false≢true (sym s ∙ ap (λ k. is_some (step_of k)) (sym same) ∙ q))) (λ t l p. rw p) d rest
 
 -- a part of a `for`, at most `room` high
 abbrev pub IsPart : ℕ → Form (Option SimpleTree)
@@ -194,10 +174,11 @@ kind_starts (plain {ts = ts} t p d) = record {
   no_end = λ rest. ap (begins_with mark.CloseCurly) (append_assoc ts _ rest) ∙
       kind_no_mark mark.CloseCurly refl refl d (t ∷ rest);
   no_else = λ rest. ap (λ l. is_else (keyword_at l)) (append_assoc ts (t ∷ []) rest) ∙
-      ap is_else (kind_no_word d (t ∷ rest));
-  no_base = λ rest. ap no_base (append_assoc ts _ rest) ∙ ap (λ o. not (is_base o)) (kind_no_word d (t ∷ rest));
+      kind_word is_else false refl refl refl d (t ∷ rest);
+  no_base = λ rest. ap no_base (append_assoc ts _ rest) ∙
+      kind_word (λ o. not (is_base o)) true refl refl refl d (t ∷ rest);
   an_if = λ rest h. absurd (false≢true (sym (ap (λ l. is_if (keyword_at l)) (append_assoc ts (t ∷ []) rest) ∙
-      ap is_if (kind_no_word d (t ∷ rest))) ∙ h));
+      kind_word is_if false refl refl refl d (t ∷ rest)) ∙ h));
 }
 kind_starts (statements.break t u p q) = word_starts t _ _ _ p refl refl (λ h. absurd (false≢true h))
 kind_starts (statements.continue t u p q) = word_starts t _ _ _ p refl refl (λ h. absurd (false≢true h))

@@ -1,7 +1,8 @@
--- Assignments, `++` and `--`, and calls are read exactly as they are spelled.
-use Rattle.sc_parse.proofs.Common.{BinaryOp, CallTree, ExprTree, IsMark, IsTrue, Lexeme, List, Mark, None, Option}
-use Rattle.sc_parse.proofs.Common.{Prefix, SimpleKind, Some, Spells, SpellsKind, SpellsPlace, Symbol, [], ap}
-use Rattle.sc_parse.proofs.Common.{append_assoc, arith, arrow, assign, assign_call, assigned_at, assignment_at}
+-- Assignments, `++` and `--`, `malloc` and `free`, and calls are read exactly as they are spelled.
+use Rattle.sc_parse.proofs.Common.{[], BinaryOp, CallTree, ExprTree, IsMark, IsTrue, Lexeme, List, Mark, None, Option}
+use Rattle.sc_parse.proofs.Common.{Prefix, SimpleKind, Some, Spells, SpellsKind, SpellsPlace, Symbol, ap, IsKeyword}
+use Rattle.sc_parse.proofs.Common.{allocate, allocated_at, free_statement, is_free, is_malloc, keyword_at, release}
+use Rattle.sc_parse.proofs.Common.{size_of, append_assoc, arith, arrow, assign, assign_call, assigned_at, assignment_at}
 use Rattle.sc_parse.proofs.Common.{begins_call, begins_value, begins_with, bound, call, change_at, change_of, changed}
 use Rattle.sc_parse.proofs.Common.{compound, compound_of, cond_is, drop, expr_height, false, false≢true, index}
 use Rattle.sc_parse.proofs.Common.{is_place, is_some, joined, lead_by, literal, looser, lt-ltb, ltb-true, makes_value}
@@ -14,6 +15,7 @@ use Rattle.sc_ast.specs.declared.expr.ExprTree.{the_lemmas}
 use Rattle.sc_ast.specs.declared.expr.ExprTree.TheVariants as expr
 use Rattle.sc_base.specs.declared.op.UnaryOp.{UnaryOp}
 use Rattle.sc_ast.specs.declared.stmt.SimpleKind.TheVariants as simple
+use Rattle.sc_parse_expr.specs.declared.mark.Keyword.TheVariants as word
 use Rattle.sc_parse_expr.specs.declared.mark.Mark.TheVariants as mark
 use Rattle.sc_parse_expr.specs.declared.lexeme.Symbol.TheVariants as symbol
 use Rattle.sc_parse_expr.specs.declared.operator.Prefix.TheVariants as prefixes
@@ -24,9 +26,12 @@ use Rattle.sc_parse.specs.declared.simple.Placed.{Placed}
 use Rattle.sc_parse.specs.Statements.{one}
 use Rattle.sc_parse.specs.StmtReaders as readers
 use Rattle.sc_parse.proofs.Exact.{Complete, Exact, Form, Low, Sound, Taken, Then, Turns, as_form, both, chosen}
-use Rattle.sc_parse.proofs.Exact.{fits_after, first_taken, given, made_exact, made_of, then_exact, took}
+use Rattle.sc_parse.proofs.Exact.{fits_after, first_taken, given, made_exact, made_of, then_exact, took, word_ahead}
 use Rattle.sc_parse.proofs.Expressions.{Few, IsCall, IsExpr, NoExtension, begins_expr, call_begins, call_exact}
-use Rattle.sc_parse.proofs.Expressions.{call_starts, expr_exact, expr_starts, few, level_reads, no_call, starts_expr}
+use Rattle.sc_parse.proofs.Expressions.{call_starts, condition_exact, expr_exact, expr_starts, expr_word, few}
+use Rattle.sc_parse.proofs.Expressions.{level_reads, no_call, starts_expr}
+use Rattle.sc_parse.proofs.Mallocs.{IsAllocation, allocated_exact, allots, argument_height, argument_low, is_free_word}
+use Rattle.sc_parse.proofs.Mallocs.{is_malloc_word}
 
 -- the lexemes begin with a mark
 pub record Marked (ts : List Lexeme) (m : Mark) : Type 0 where
@@ -89,6 +94,7 @@ place_begins : {level : ℕ} {ts : List Lexeme} {e : ExprTree} (d : Spells level
     (0 < level → IsTrue (is_place e)) → begins_value (ts ++ rest) ≡ false
 place_begins (literal t number p) rest h = rw p
 place_begins (variable t name p) rest h = rw p
+place_begins (size_of t u v p q r d) rest h = rw p
 place_begins (parenthesised t u p q d) rest h = rw p
 place_begins (index {ts = ts} {us = us} t u p q d g) rest h = ap begins_value (append_assoc ts _ rest) ∙
     place_begins d (t ∷ (us ++ u ∷ []) ++ rest) (λ some. absurd (omega arith))
@@ -133,6 +139,8 @@ data IsChange (room : ℕ) (x : Placed) : List Lexeme → SimpleKind → Type 0 
       IsChange room x (t ∷ us) (simple.Assign x.place value)
   assigns_call : {us : List Lexeme} {call : CallTree} (t : Lexeme) → IsMark mark.Equal t → IsCall room us call →
       IsChange room x (t ∷ us) (simple.AssignCall x.place call)
+  allocates : {us : List Lexeme} {k : SimpleKind} (t u : Lexeme) → IsMark mark.Equal t → IsKeyword word.Malloc u →
+      IsAllocation room x.place us k → IsChange room x (t ∷ u ∷ us) k
   combines : {us : List Lexeme} {value : ExprTree} (t : Lexeme) (m : Mark) (op : BinaryOp) → IsMark m t →
       compound_of m ≡ Some op → x.height < room → IsExpr (room - 1) us value →
       IsChange room x (t ∷ us) (updates op x.place value)
@@ -141,6 +149,20 @@ data IsChange (room : ℕ) (x : Placed) : List Lexeme → SimpleKind → Type 0 
 
 change_ahead : (ts : List Lexeme) (c : Change) → change_at ts ≡ Some c → (m : Mark) × Marked ts m × Changes m c
 change_ahead ts c h = let b = bound _ _ c h in (b.0, mark_ahead ts b.0 b.1, changes b.0 c b.2)
+
+-- what follows `malloc`
+abbrev AfterMalloc : ℕ → Placed → Lexeme → Form SimpleKind
+AfterMalloc room x t us k = IsChange room x (t ∷ us) k
+
+malloc_sound : (free room : ℕ) (x : Placed) (ts rest : List Lexeme) (k : SimpleKind) → Marked ts mark.Equal →
+    keyword_at (drop 1 ts) ≡ Some word.Malloc → allocated_at free room x.place (drop 1 (drop 1 ts)) ≡ Some (k, rest) →
+    Taken (IsChange room x) ts k rest
+malloc_sound free room x ts rest k t q h =
+    let u = word_ahead (drop 1 ts) word.Malloc q in
+    let d = (allocated_exact free room x.place).sound (drop 1 (drop 1 ts)) rest k h in
+    let with_word : Taken (AfterMalloc room x t.first) (drop 1 ts) k rest =
+    first_taken u.first u.is d (λ us d. allocates t.first u.first t.mark u.keyword d) in
+    first_taken t.first t.is with_word (λ us d. d)
 
 -- what follows the mark of such a change
 abbrev WithMark : ℕ → Placed → Lexeme → Form SimpleKind
@@ -153,12 +175,14 @@ change_sound free room x ts rest k h = go (change_at ts) refl h
   where
     by_change : (m : Mark) → Marked ts m → (c : Change) → Changes m c →
         changed free room (Some c) x (drop 1 ts) ≡ Some (k, rest) → Taken (IsChange room x) ts k rest
-    by_change _ t _ sets e = chosen _ _ _ e
+    by_change _ t _ sets e = chosen _ _ _ e (λ q e. malloc_sound free room x ts rest k t (is_malloc_word _ q) e)
+        (λ q e. chosen _ _ _ e
         (λ q e. first_taken t.first t.is ((made_exact (simple.AssignCall x.place) (call_exact free room)).sound
         (drop 1 ts) rest k e)
         (λ us d. made_of (WithMark room x t.first) (λ us v d. assigns_call t.first t.mark d) us k d))
         (λ q e. first_taken t.first t.is ((made_exact (simple.Assign x.place) (expr_exact free room)).sound
-        (drop 1 ts) rest k e) (λ us d. made_of (WithMark room x t.first) (λ us v d. assigns t.first t.mark d) us k d))
+        (drop 1 ts) rest k e)
+        (λ us d. made_of (WithMark room x t.first) (λ us v d. assigns t.first t.mark d) us k d)))
     by_change _ t _ (by m op q) e =
         let c = cond_is _ _ _ e in
         let short = ltb-true _ room c.0 in
@@ -229,13 +253,21 @@ change_complete : (free room : ℕ) (x : Placed) → Complete (Few free) (IsChan
 unfolding assigned_at operand_at stepped
 change_complete free room x _ _ (assigns {us = us} t p d) rest fits ends = rw (
   p,
+  expr_word is_malloc false refl refl _ (expr_starts d.0 rest),
   no_call d.0 rest ends.1,
   (expr_exact free room).complete _ _ d rest (fits_after (few free) t us fits) ends.0,
 )
 change_complete free room x _ _ (assigns_call {us = us} t p d) rest fits ends = rw (
   p,
+  expr_word is_malloc false refl refl _ (call_starts d.0 rest),
   call_begins d.0 rest,
   (call_exact free room).complete _ _ d rest (fits_after (few free) t us fits) tt,
+)
+change_complete free room x _ _ (allocates {us = us} t u p q d) rest fits ends = rw (
+  p,
+  q,
+  (allocated_exact free room x.place).complete us _ d rest
+      (fits_after (few free) u us (fits_after (few free) t (u ∷ us) fits)) tt,
 )
 change_complete free room x _ _ (combines {us = us} t m op p q short d) rest fits ends = rw (
   p,
@@ -250,6 +282,7 @@ change_stops : {room : ℕ} {x : Placed} {us : List Lexeme} {k : SimpleKind} (d 
     (rest : List Lexeme) → EndsSimple (us ++ rest)
 change_stops (assigns {us = us} t p d) rest = stops mark.Equal _ refl t (us ++ rest) p
 change_stops (assigns_call {us = us} t p d) rest = stops mark.Equal _ refl t (us ++ rest) p
+change_stops (allocates {us = us} t u p q d) rest = stops mark.Equal _ refl t (u ∷ us ++ rest) p
 change_stops (combines {us = us} t m op p q short d) rest = stops m _ (compound_change m op q) t (us ++ rest) p
 change_stops (moves t m op p q short) rest = stops m _ (step_change m op q) t rest p
 
@@ -266,17 +299,31 @@ assignment_exact free room = then_exact (few free) (place_exact free room)
 assignment_is : {room : ℕ} → Turns (IsAssignment room) (IsSimple room)
 assignment_is _ _ (both d (assigns t p v)) = (assign t p d.0 v.0, omega (arith, d.1, d.2, v.1))
 assignment_is _ _ (both d (assigns_call t p v)) = (assign_call t p d.0 v.0, omega (arith, d.1, d.2, v.1))
+assignment_is _ _ (both d (allocates t u p q (allots {count = count} {of = of} c))) =
+    (allocate t u p q d.0 c.0, omega (arith, d.1, d.2, c.1, argument_low count of))
 assignment_is _ _ (both {x = x} d (combines {value = value} t m op p q short v)) =
     (compound t m op p q d.0 v.0, omega (arith, d.1, v.1, updates_height op x.place value))
 assignment_is {room} _ _ (both {x = x} d (moves t m op p q short)) =
     (step_after t m op p q d.0, step_low op x.place room (positive d.0.0) (omega (arith, d.1)))
 
+-- what follows `free`
+abbrev AfterFree : ℕ → Lexeme → Form SimpleKind
+AfterFree room t us k = IsSimple room (t ∷ us) k
+
+freed_sound : (free room : ℕ) (ts rest : List Lexeme) (k : SimpleKind) → keyword_at ts ≡ Some word.Free →
+    free_statement free room (drop 1 ts) ≡ Some (k, rest) → Taken (IsSimple room) ts k rest
+freed_sound free room ts rest k q h =
+    let t = word_ahead ts word.Free q in
+    first_taken t.first t.is ((made_exact simple.Free (condition_exact free room)).sound (drop 1 ts) rest k h)
+    (λ us d. made_of (AfterFree room t.first) (λ us e d. (release t.first t.keyword d.0, d.1)) us k d)
+
 simple_sound : (free room : ℕ) → Sound (IsSimple room) (simple_at free room)
 unfolding simple_at readers.step_before stepped
 simple_sound free room ts rest k h = given _ (step_at ts) (unstepped free room ts) h (λ q e. chosen _ _ _ e
+    (λ q e. freed_sound free room ts rest k (is_free_word _ q) e) (λ q e. chosen _ _ _ e
     (λ q e. as_form (made_of (IsSimple room) (λ us c d. (call d.0, d.1)))
     ((made_exact simple.Call (call_exact free room)).sound ts rest k e))
-    (λ q e. as_form assignment_is ((assignment_exact free room).sound ts rest k e))) (λ op q e.
+    (λ q e. as_form assignment_is ((assignment_exact free room).sound ts rest k e)))) (λ op q e.
     let o = bound _ _ op q in
     let t = mark_ahead ts o.0 o.1 in
     let b = bound _ _ _ e in
@@ -292,9 +339,9 @@ assigned : (free room : ℕ) {ts : List Lexeme} {k : SimpleKind} (d : IsAssignme
 unfolding simple_at
 assigned free room (both {ts = ts} {us = us} d c) rest few ends =
     let all = append_assoc ts us rest in
-    let none = no_step _ (ap begins_expr all ∙ expr_starts d.0.0 (us ++ rest)) in
+    let starts = ap begins_expr all ∙ expr_starts d.0.0 (us ++ rest) in
     let plain = ap begins_call all ∙ no_call d.0.0 (us ++ rest) (change_stops c rest).1 in
-    rw (none, plain) ((assignment_exact free room).complete _ _ (both d c) rest few ends)
+    rw (no_step _ starts, expr_word is_free false refl refl _ starts, plain) ((assignment_exact free room).complete _ _ (both d c) rest few ends)
 
 simple_complete : (free room : ℕ) → Complete (Few free) (IsSimple room) EndsSimple (simple_at free room)
 unfolding simple_at readers.step_before stepped
@@ -320,8 +367,16 @@ simple_complete free room _ _ (step_before {ts = ts} {place = place} t m op p q 
     let read = (place_exact free room).complete ts (placed place (expr_height place)) (d, refl, omega arith) rest
     (fits_after (few free) t ts fits) ends.0 in
     rw (p, q, read, lt-ltb _ room short)
+simple_complete free room _ _ (allocate {place = place} {count = count} {of = of} t u p q d c, low) rest fits ends =
+    let some = positive d.0 in
+    let argument = argument_height count of in
+    assigned free room (both {x = placed place (expr_height place)} (d, refl, omega arith)
+    (allocates t u p q (allots (c, omega arith)))) rest fits ends
+simple_complete free room _ _ (release {ts = ts} t p d, low) rest fits ends =
+    rw (p, (condition_exact free room).complete ts _ (d, low) rest (fits_after (few free) t ts fits) tt)
 simple_complete free room _ _ (call d, low) rest fits ends = rw (
   no_step _ (call_starts d rest),
+  expr_word is_free false refl refl _ (call_starts d rest),
   call_begins d rest,
   (call_exact free room).complete _ _ (d, low) rest fits tt,
 )

@@ -2,9 +2,6 @@
 use Rattle.sc_parse.proofs.Common.{Adder, Bool, Directives, Lexeme, Line, List, None, Option, Some, ap, arith, drop}
 use Rattle.sc_parse.proofs.Common.{false, grouped, line_at, lines_at, refl, separated, stmt_at, stmt_within, suc, true}
 use Rattle.sc_parse.proofs.Common.{with_line, zero, ℕ, ◌+◌, ◌<◌, ◌≡◌}
-use Rattle.std.proofs.lemmas.List.Sums.{prefix_len-le-length}
-
-pub ruleset lengths = (prefix_len-le-length)
 
 module _ {A : Type 0} (comma : List Lexeme → Option (List Lexeme)) (adder : Adder A) where
   pub item_last : (turns : ℕ) (xs ys : List A) (ts us : List Lexeme) → 0 < turns → adder xs ts ≡ Some (ys, us) →

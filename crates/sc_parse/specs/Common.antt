@@ -1,7 +1,8 @@
 -- The names from below that several definitions of this crate cite, passed on from one place. Declares nothing.
 pub use Rattle.sc_base.specs.Prelude.{loosest_level, unary_level}
 pub use Rattle.sc_base.specs.declared.op.BinaryOp.{BinaryOp}
-pub use Rattle.sc_ast.specs.Prelude.{Number, array_length, head_of, is_place, stmt_kind_of, non_empty, section_height}
+pub use Rattle.sc_ast.specs.Prelude.{Number, array_length, head_of, is_place, malloc_argument, stmt_kind_of, non_empty}
+pub use Rattle.sc_ast.specs.Prelude.{section_height}
 pub use Rattle.sc_ast.specs.declared.expr.CallTree.{CallTree}
 pub use Rattle.sc_ast.specs.declared.expr.ExprTree.{ExprTree}
 pub use Rattle.sc_ast.specs.declared.section.ConstTree.{ConstTree}

@@ -1,12 +1,9 @@
 -- Lists as they are spelled.
-use Rattle.sc_parse.specs.Common.{IsMark, Keyword, Lexeme, Number}
+use Rattle.sc_parse.specs.Common.{IsMark, Lexeme, Number}
 use Rattle.std.specs.Prelude.{◌≡◌, ℕ, List, [], ◌∷◌, ◌++◌}
 use Rattle.sc_parse_expr.specs.declared.mark.Mark.TheVariants as mark
 use Rattle.sc_parse_expr.specs.declared.lexeme.Symbol.TheVariants as symbol
-
--- the lexeme is this reserved word
-abbrev pub IsKeyword : Keyword → Lexeme → Type 0
-IsKeyword word t = t.symbol ≡ symbol.Keyword word
+pub use Rattle.sc_parse_expr.specs.Lexemes.{IsKeyword}
 
 -- the lexeme is this integer
 abbrev pub IsInteger : Number → Lexeme → Type 0

@@ -1,11 +1,10 @@
--- Helping: reading types, lists and declarations from left to right.
+-- Helping: reading declarators, lists and declarations from left to right.
 use Rattle.sc_parse.specs.Common.{BaseTree, ConstTree, Decl, Declarator, HeadTree, InitTree, Keyword, Lexeme}
 use Rattle.sc_parse.specs.Common.{MemberTree, Number, ParamTree, StructTree, TypeName, TypeTree, array_length}
 use Rattle.sc_parse.specs.Common.{following, name_at, non_empty, ◌>>=◌}
 use Rattle.std.specs.Prelude.{ℕ, zero, suc, ◌+◌, Bool, true, false, ◌||◌, List, [], ◌∷◌, ◌++◌, length, drop, Option}
 use Rattle.std.specs.Prelude.{Some, None, is_some, if◌then◌else◌}
 use Rattle.std.specs.Option.{option_map_or}
-use Rattle.sc_ast.specs.declared.types.BaseTree.TheVariants as base
 use Rattle.sc_ast.specs.declared.section.InitTree.TheVariants as init
 use Rattle.sc_ast.specs.declared.section.Decl.TheVariants as decl
 use Rattle.sc_parse_expr.specs.declared.mark.Keyword.TheVariants as word
@@ -13,19 +12,8 @@ use Rattle.sc_parse_expr.specs.declared.mark.Mark.TheVariants as mark
 use Rattle.sc_parse.specs.Lists.{first_line}
 use Rattle.sc_parse.specs.Lookahead.{Reader, past_int, is_void, keyword_at, integer_by, begins_with, begins_call}
 use Rattle.sc_parse.specs.Lookahead.{star_count, after_inner_comma}
-
-abbrev pub base_by : Option Keyword → Reader BaseTree
-base_by (Some word.Int) ts = Some (base.Int, ts)
-base_by (Some word.Signed) ts = Some (base.Int, past_int ts)
-base_by (Some word.Unsigned) ts = Some (base.Unsigned, past_int ts)
-base_by (Some word.Struct) ts = name_at ts >>= (λ x. Some (base.Struct x.0, x.1))
-base_by _ ts = None
-
-unfoldable pub base_at : Reader BaseTree
-base_at ts = base_by (keyword_at ts) (drop 1 ts)
-
-unfoldable pub type_name_at : Reader TypeName
-type_name_at ts = base_at ts >>= (λ x. Some (record { base = x.0; stars = star_count x.1 }, drop (star_count x.1) x.1))
+pub use Rattle.sc_parse_expr.specs.TypeReaders.{base_by}
+unfoldable pub use Rattle.sc_parse_expr.specs.TypeReaders.{base_at, type_name_at}
 
 -- an integer that an array may have as its length
 abbrev pub elements_at : Reader ℕ

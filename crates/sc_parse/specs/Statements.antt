@@ -1,6 +1,7 @@
 -- How calls and statements are spelled (C11 6.5.2.2, 6.5.16, 6.8).
 use Rattle.sc_parse.specs.Common.{BinaryOp, CallTree, ExprTree, IsIdent, IsMark, Lexeme, Mark, SimpleKind, SimpleTree}
-use Rattle.sc_parse.specs.Common.{Spells, StmtKind, StmtTree, is_place, stmt_kind_of, loosest_level, unary_level}
+use Rattle.sc_parse.specs.Common.{Spells, StmtKind, StmtTree, TypeName, is_place, malloc_argument, stmt_kind_of}
+use Rattle.sc_parse.specs.Common.{loosest_level, unary_level}
 use Rattle.std.specs.Prelude.{◌≡◌, ℕ, false, IsTrue, List, [], ◌∷◌, ◌++◌, Option, Some, None}
 use Rattle.sc_ast.specs.declared.expr.ExprTree.TheVariants as expr
 use Rattle.sc_base.specs.declared.op.BinaryOp.TheVariants as binary
@@ -19,6 +20,11 @@ pub data SpellsCall : List Lexeme → CallTree → Type 0 where
   call : {ts : List Lexeme} {args : List ExprTree} (t u v : Lexeme) (name : List ℕ) → IsIdent name t →
       IsMark mark.OpenParen u → IsMark mark.CloseParen v → SpellsArgs ts args →
       SpellsCall (t ∷ u ∷ (ts ++ v ∷ [])) (record { name = name; args = args })
+
+-- An expression in its parentheses, as a condition is and what `malloc` and `free` are given.
+pub data SpellsCondition : List Lexeme → ExprTree → Type 0 where
+  condition : {ts : List Lexeme} {cond : ExprTree} (t u : Lexeme) → IsMark mark.OpenParen t → IsMark mark.CloseParen u →
+      Spells loosest_level ts cond → SpellsCondition (t ∷ (ts ++ u ∷ [])) cond
 
 -- a place is a unary expression that names one
 abbrev pub SpellsPlace : List Lexeme → ExprTree → Type 0
@@ -66,6 +72,11 @@ pub data SpellsKind : List Lexeme → SimpleKind → Type 0 where
       step_of m ≡ Some op → SpellsPlace ts place → SpellsKind (ts ++ t ∷ []) (updates op place one)
   step_before : {ts : List Lexeme} {place : ExprTree} (t : Lexeme) (m : Mark) (op : BinaryOp) → IsMark m t →
       step_of m ≡ Some op → SpellsPlace ts place → SpellsKind (t ∷ ts) (updates op place one)
+  allocate : {ts us : List Lexeme} {place : ExprTree} {count : Option ExprTree} {of : TypeName} (t u : Lexeme) →
+      IsMark mark.Equal t → IsKeyword word.Malloc u → SpellsPlace ts place →
+      SpellsCondition us (malloc_argument count of) → SpellsKind (ts ++ t ∷ u ∷ us) (simple.Malloc place count of)
+  release : {ts : List Lexeme} {pointer : ExprTree} (t : Lexeme) → IsKeyword word.Free t → SpellsCondition ts pointer →
+      SpellsKind (t ∷ ts) (simple.Free pointer)
 
 -- the line of a statement is that of its first lexeme
 abbrev pub SpellsSimple : List Lexeme → SimpleTree → Type 0
@@ -80,11 +91,6 @@ pub data SpellsPart : List Lexeme → Option SimpleTree → Type 0 where
 pub data SpellsTest : List Lexeme → ExprTree → Type 0 where
   no_test : SpellsTest [] one
   a_test : {ts : List Lexeme} {cond : ExprTree} → Spells loosest_level ts cond → SpellsTest ts cond
-
--- A condition in its parentheses.
-pub data SpellsCondition : List Lexeme → ExprTree → Type 0 where
-  condition : {ts : List Lexeme} {cond : ExprTree} (t u : Lexeme) → IsMark mark.OpenParen t → IsMark mark.CloseParen u →
-      Spells loosest_level ts cond → SpellsCondition (t ∷ (ts ++ u ∷ [])) cond
 
 mutual
   pub data SpellsStmtKind : List Lexeme → StmtKind → Type 0 where

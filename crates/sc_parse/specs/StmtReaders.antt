@@ -1,11 +1,14 @@
 -- Helping: reading calls and statements from left to right, where a statement's parts may be `room` high and `free`
 -- brackets may be open.
 use Rattle.sc_parse.specs.Common.{BinaryOp, CallTree, ExprTree, Keyword, Lexeme, Mark, SimpleKind, SimpleTree, StmtKind}
-use Rattle.sc_parse.specs.Common.{StmtTree, Symbol, following, is_place, stmt_kind_of, loosest_level, name_at, read}
-use Rattle.sc_parse.specs.Common.{unary_level, ◌>>=◌}
+use Rattle.sc_parse.specs.Common.{StmtTree, Symbol, TypeName, following, is_place, stmt_kind_of, loosest_level}
+use Rattle.sc_parse.specs.Common.{name_at, read, unary_level, ◌>>=◌}
 use Rattle.std.specs.Prelude.{ℕ, zero, suc, ◌+◌, ◌-◌, Bool, true, false, nat_le, nat_lt, List, [], ◌∷◌, length, drop}
 use Rattle.std.specs.Prelude.{Option, Some, None, if◌then◌else◌}
 use Rattle.std.specs.Option.{option_map_or}
+use Rattle.sc_base.specs.declared.op.BinaryOp.TheVariants as binary
+use Rattle.sc_ast.specs.declared.expr.ExprTree.{ExprTree-F, fold-ExprTree, out-ExprTree}
+use Rattle.sc_ast.specs.declared.expr.ExprTree.TheOpen as term
 use Rattle.sc_ast.specs.declared.stmt.SimpleKind.TheVariants as simple
 use Rattle.sc_ast.specs.declared.stmt.StmtKind.TheVariants as stmt
 use Rattle.sc_parse_expr.specs.declared.mark.Keyword.TheVariants as word
@@ -87,11 +90,55 @@ unary_place free room ts = read free room unary_level ts >>=
 unfoldable pub place_at : (free : ℕ) → ℕ → Reader Placed
 place_at free room ts = if begins_value ts then None else unary_place free room ts
 
--- what follows `=`
-unfoldable pub assigned_at : (free : ℕ) → ℕ → ExprTree → Reader SimpleKind
-assigned_at free room place ts =
+-- the type under a `sizeof`
+abbrev pub sized_step : ExprTree-F (Option TypeName) → Option TypeName
+sized_step (term.SizeOf of) = Some of
+sized_step _ = None
+
+abbrev pub sized_type : ExprTree → Option TypeName
+sized_type = fold-ExprTree (Option TypeName) sized_step
+
+-- the count and the type of an argument of `malloc` that is a product
+abbrev pub product_by : BinaryOp → ExprTree → Option TypeName → Option (Option ExprTree × TypeName)
+product_by binary.Mul count (Some of) = Some (Some count, of)
+product_by _ count of = None
+
+abbrev pub malloc_by : ExprTree-F ExprTree → Option (Option ExprTree × TypeName)
+malloc_by (term.SizeOf of) = Some (None, of)
+malloc_by (term.Binary op left right) = product_by op left (sized_type right)
+malloc_by _ = None
+
+-- the count, if there is one, and the type of an argument of `malloc`
+abbrev pub malloc_of : ExprTree → Option (Option ExprTree × TypeName)
+malloc_of argument = malloc_by (out-ExprTree argument)
+
+abbrev pub is_malloc : Option Keyword → Bool
+is_malloc (Some word.Malloc) = true
+is_malloc _ = false
+
+abbrev pub is_free : Option Keyword → Bool
+is_free (Some word.Free) = true
+is_free _ = false
+
+unfoldable pub condition_at : (free : ℕ) → ℕ → Reader ExprTree
+condition_at free room ts = following mark.OpenParen ts >>=
+    (λ us. expr_at free room us >>= (λ x. following mark.CloseParen x.1 >>= (λ rest. Some (x.0, rest))))
+
+-- what follows `malloc`, where the argument is one level higher than its count
+unfoldable pub allocated_at : (free : ℕ) → ℕ → ExprTree → Reader SimpleKind
+allocated_at free room place ts = condition_at free (room + 1) ts >>=
+    (λ x. malloc_of x.0 >>= (λ y. Some (simple.Malloc place y.0 y.1, x.1)))
+
+-- what follows `=`, where it is no `malloc`
+abbrev pub value_assigned : (free : ℕ) → ℕ → ExprTree → Reader SimpleKind
+value_assigned free room place ts =
     if begins_call ts then (call_at free room ts >>= (λ x. Some (simple.AssignCall place x.0, x.1))) else
     (expr_at free room ts >>= (λ x. Some (simple.Assign place x.0, x.1)))
+
+-- what follows `=`
+unfoldable pub assigned_at : (free : ℕ) → ℕ → ExprTree → Reader SimpleKind
+assigned_at free room place ts = if is_malloc (keyword_at ts) then allocated_at free room place (drop 1 ts) else
+    value_assigned free room place ts
 
 -- what follows the operator of a compound assignment, where the tree that is made has one level more
 unfoldable pub operand_at : (free : ℕ) → ℕ → BinaryOp → Placed → Reader SimpleKind
@@ -116,8 +163,15 @@ step_before free room op ts = place_at free room ts >>= (λ x. stepped room op x
 abbrev pub call_statement : (free : ℕ) → ℕ → Reader SimpleKind
 call_statement free room ts = call_at free room ts >>= (λ x. Some (simple.Call x.0, x.1))
 
+abbrev pub free_statement : (free : ℕ) → ℕ → Reader SimpleKind
+free_statement free room ts = condition_at free room ts >>= (λ x. Some (simple.Free x.0, x.1))
+
+abbrev pub unfreed : (free : ℕ) → ℕ → Reader SimpleKind
+unfreed free room ts = if begins_call ts then call_statement free room ts else assignment_at free room ts
+
 abbrev pub unstepped : (free : ℕ) → ℕ → Reader SimpleKind
-unstepped free room ts = if begins_call ts then call_statement free room ts else assignment_at free room ts
+unstepped free room ts = if is_free (keyword_at ts) then free_statement free room (drop 1 ts) else
+    unfreed free room ts
 
 -- what may stand in the head of a `for`, where its parts may be `room` high
 unfoldable pub simple_at : (free : ℕ) → ℕ → Reader SimpleKind
@@ -141,10 +195,6 @@ always room ts = if nat_le 1 room then Some (one, ts) else None
 -- the condition of a `for`
 unfoldable pub test_at : (free : ℕ) → ℕ → Reader ExprTree
 test_at free room ts = if begins_with mark.Semicolon ts then always room ts else expr_at free room ts
-
-unfoldable pub condition_at : (free : ℕ) → ℕ → Reader ExprTree
-condition_at free room ts = following mark.OpenParen ts >>=
-    (λ us. expr_at free room us >>= (λ x. following mark.CloseParen x.1 >>= (λ rest. Some (x.0, rest))))
 
 abbrev pub value_returned : (free : ℕ) → ℕ → Reader StmtKind
 value_returned free room ts =

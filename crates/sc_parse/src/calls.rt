@@ -5,10 +5,10 @@ ghost use Rattle.sc_parse.specs.Prelude.{Agrees, add_arg, all_separated, args_at
 ghost use Rattle.sc_parse.specs.Prelude.{condition_at, expr_at};
 ghost use Rattle.std.specs.Prelude.{◌≡◌, ◌+◌, [], length};
 
-use crate::lookahead::{begins_with, ended_by, name_at, skip, take};
+use crate::lookahead::{begins_with, ended_by, skip, take};
 use sc_ast::{CallTree, ExprTree, Exprs};
 use sc_base::{LOOSEST, MAX_BRACKETS};
-use sc_parse_expr::{Built, Lexeme, Mark, SyntaxFault, parse_level, refused};
+use sc_parse_expr::{Built, Lexeme, Mark, SyntaxFault, name_at, parse_level, refused};
 use sqlite_items::Items;
 use std::alloc::Global;
 

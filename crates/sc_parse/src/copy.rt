@@ -37,6 +37,7 @@ pub fn copy_expr(alloc: Global, expr: &ExprTree) -> Result<ExprTree, AllocError>
         }),
         ExprTree::Deref(of) => Ok(ExprTree::Deref(copy_boxed(alloc, of)?)),
         ExprTree::Address(of) => Ok(ExprTree::Address(copy_boxed(alloc, of)?)),
+        ExprTree::SizeOf(of) => Ok(ExprTree::SizeOf(*of)),
     }
 }
 

@@ -8,14 +8,14 @@ ghost use Rattle.std.specs.Prelude.{◌≡◌, ◌+◌, [], length};
 
 use crate::calls::expr_at;
 use crate::heads::head_at;
-use crate::lookahead::{first_line, is_base, keyword_at, skip, take};
+use crate::lookahead::{first_line, is_base, skip, take};
 use crate::stmts::stmts_at;
-use crate::types::{Declarator, base_at, declarator_at};
+use crate::types::{Declarator, declarator_at};
 use sc_ast::{
     BaseTree, Decl, ExprTree, FunctionHead, FunctionTree, HeadTree, LocalTree, LocalTrees, TypeTree,
 };
 use sc_base::MAX_HEIGHT;
-use sc_parse_expr::{Lexeme, Mark, SyntaxFault, refused};
+use sc_parse_expr::{Lexeme, Mark, SyntaxFault, base_at, keyword_at, refused};
 use sqlite_items::Items;
 use std::alloc::Global;
 

@@ -6,9 +6,9 @@ ghost use Rattle.sc_parse.specs.Prelude.{literal_at, one_at, past_comma, separat
 ghost use Rattle.std.specs.Prelude.{◌≡◌, ◌≤◌, ◌+◌, [], length};
 
 use crate::lookahead::{first_line, integer_by, skip, skip_inner_comma, take};
-use crate::types::{Declarator, base_at, declarator_at};
+use crate::types::{Declarator, declarator_at};
 use sc_ast::{BaseTree, ConstTree, Decl, Decls, GlobalTree, InitTree, NonEmpty, TypeTree};
-use sc_parse_expr::{Lexeme, Mark, SyntaxFault, refused};
+use sc_parse_expr::{Lexeme, Mark, SyntaxFault, base_at, refused};
 use sqlite_items::Items;
 use std::alloc::Global;
 

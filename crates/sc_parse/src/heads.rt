@@ -5,12 +5,12 @@ ghost use Rattle.sc_parse.specs.Prelude.{name_at, param_at, params_at, params_in
 ghost use Rattle.sc_parse.specs.Prelude.{star_count};
 ghost use Rattle.std.specs.Prelude.{◌≡◌, ℕ, ◌+◌, List, [], length, drop, true, false, None, Some};
 
-use crate::lookahead::{
-    begins_call, first_line, is_void, keyword_at, name_at, past, past_int, skip, star_count, take,
-};
-use crate::types::type_name_at;
+use crate::lookahead::{begins_call, first_line, is_void, past, skip, take};
 use sc_ast::{HeadTree, Ident, ParamTree, ParamTrees, TypeName};
-use sc_parse_expr::{Keyword, Lexeme, Mark, SyntaxFault, name_by, refused};
+use sc_parse_expr::{
+    Keyword, Lexeme, Mark, SyntaxFault, keyword_at, name_at, name_by, past_int, refused,
+    star_count, type_name_at,
+};
 use sqlite_items::Items;
 use std::alloc::Global;
 

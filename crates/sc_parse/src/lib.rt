@@ -1,7 +1,7 @@
 //! Parsing a section: its lexemes to its tree.
 //!
-//! The grammar of types, statements, declarations and sections is a relation between lists of lexemes and the trees of
-//! `sc_ast`, over that of expressions in `sc_parse_expr`.
+//! The grammar of declarators, statements, declarations and sections is a relation between lists of lexemes and the
+//! trees of `sc_ast`, over that of types and expressions in `sc_parse_expr`.
 #![tactic(auto)]
 
 mod brackets;
@@ -10,6 +10,7 @@ mod copy;
 mod functions;
 mod globals;
 mod heads;
+mod heap;
 mod lookahead;
 mod members;
 mod reading;

@@ -3,14 +3,11 @@
 //! A parser takes the lexemes that are left by `&mut`, and leaves those after what it read.
 
 ghost use Rattle.sc_parse.specs.Prelude.{Agrees, after_inner_comma, begins_call, begins_with, ended_by, first_line};
-ghost use Rattle.sc_parse.specs.Prelude.{following, integer_by, is_base, is_else, is_void, keyword_at, keyword_by};
-ghost use Rattle.sc_parse.specs.Prelude.{name_at, past_int, star_count};
-ghost use Rattle.std.specs.Prelude.{◌≡◌, ◌≤◌, length, drop, IsSome, true, false, Some, None};
+ghost use Rattle.sc_parse.specs.Prelude.{following, integer_by, is_base, is_else, is_void};
+ghost use Rattle.std.specs.Prelude.{◌≡◌, drop, IsSome, true, false, Some, None};
 
-use sc_ast::{Ident, Literal};
-use sc_parse_expr::{
-    Keyword, Lexeme, Mark, Symbol, SyntaxFault, expect, is_mark, name_by, refused,
-};
+use sc_ast::Literal;
+use sc_parse_expr::{Keyword, Lexeme, Mark, Symbol, SyntaxFault, expect, is_mark, name_by};
 
 /// Whether the lexemes begin with a mark.
 pub fn begins_with(mark: Mark, rest: &[Lexeme]) -> bool
@@ -91,36 +88,6 @@ pub fn ended_by<T: Drop>(mark: Mark, value: T, rest: &mut &[Lexeme]) -> Result<T
     Ok(value)
 }
 
-fn keyword_by(symbol: &Symbol) -> Option<Keyword>
-    ensures { result ≡ keyword_by symbol.now }
-{
-    match symbol {
-        Symbol::Keyword(word) => Some(*word),
-        _ => None,
-    }
-}
-
-/// The reserved word at the start.
-pub fn keyword_at(rest: &[Lexeme]) -> Option<Keyword>
-    ensures value { result ≡ keyword_at rest.now }
-    ensures some { IsSome result → 1 ≤ length rest.now }
-{
-    let [first, ..] = rest else {
-        return None;
-    };
-    keyword_by(&first.symbol)
-}
-
-/// The lexemes without an `int` that may come first.
-pub fn past_int(rest: &[Lexeme]) -> &[Lexeme]
-    ensures { result.now ≡ past_int rest.now }
-{
-    match keyword_at(rest) {
-        Some(Keyword::Int) => &rest[1..],
-        _ => rest,
-    }
-}
-
 /// Whether the word is `void`.
 pub fn is_void(word: Option<Keyword>) -> bool
     ensures value { result ≡ is_void word }
@@ -160,22 +127,6 @@ pub fn integer_by(symbol: &Symbol) -> Option<Literal>
     }
 }
 
-/// The identifier at the start.
-pub fn name_at(rest: &mut &[Lexeme]) -> Result<Ident, SyntaxFault>
-    ensures { Agrees (λ x. (x, rest.new.now)) result (name_at rest.old.now) }
-{
-    let [first, following @ ..] = *rest else {
-        return Err(refused(rest));
-    };
-    match name_by(&first.symbol) {
-        Some(name) => {
-            *rest = following;
-            Ok(name)
-        }
-        None => Err(refused(rest)),
-    }
-}
-
 /// The lexemes after the first.
 pub fn past(rest: &[Lexeme]) -> &[Lexeme]
     ensures { result.now ≡ drop 1 rest.now }
@@ -184,15 +135,4 @@ pub fn past(rest: &[Lexeme]) -> &[Lexeme]
         return rest;
     };
     following
-}
-
-/// How many `*` are at the start.
-#[tactic(auto, using(crate::proofs::Steps::lengths), unfolding(crate::specs::Lookahead::star_count))]
-pub fn star_count(rest: &[Lexeme]) -> usize
-    ensures value { result ≡ star_count rest.now }
-    ensures within { result ≤ length rest.now }
-{
-    rest.iter()
-        .take_while(|lexeme| is_mark(Mark::Star, &lexeme.symbol))
-        .count()
 }

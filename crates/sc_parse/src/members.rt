@@ -5,10 +5,10 @@ ghost use Rattle.sc_parse.specs.Prelude.{member_at, members_at, members_in_brace
 ghost use Rattle.std.specs.Prelude.{◌≡◌, ◌≤◌, ◌+◌, length};
 ghost use Rattle.sc_parse_expr.specs.declared.mark.Mark.TheVariants.{CloseCurly};
 
-use crate::lookahead::{begins_with, first_line, name_at, skip, take};
-use crate::types::{Declarator, base_at, declarator_at};
+use crate::lookahead::{begins_with, first_line, skip, take};
+use crate::types::{Declarator, declarator_at};
 use sc_ast::{BaseTree, MemberTree, MemberTrees, NonEmpty, StructTree, TypeTree};
-use sc_parse_expr::{Lexeme, Mark, SyntaxFault, refused};
+use sc_parse_expr::{Lexeme, Mark, SyntaxFault, base_at, name_at, refused};
 use sqlite_items::Items;
 use std::alloc::Global;
 

@@ -11,11 +11,11 @@ ghost use Rattle.sc_parse_expr.specs.declared.lexeme.Lexeme.{Lexeme};
 use crate::functions::headed_at;
 use crate::globals::globals_at;
 use crate::heads::begins_head;
-use crate::lookahead::{begins_with, keyword_at, past};
+use crate::lookahead::{begins_with, past};
 use crate::members::struct_at;
 use sc_ast::{Decl, Decls, ExportLine, ExportLines, ImportLine, ImportLines, SectionTree};
 use sc_base::Name;
-use sc_parse_expr::{Keyword, Lexeme, Mark, Symbol, SyntaxFault, name_by, refused};
+use sc_parse_expr::{Keyword, Lexeme, Mark, Symbol, SyntaxFault, keyword_at, name_by, refused};
 use sqlite_items::Items;
 use std::alloc::{AllocError, Global};
 

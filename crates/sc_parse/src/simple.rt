@@ -1,21 +1,22 @@
-//! Assignments, `++` and `--`, and calls as statements.
+//! Assignments, `++` and `--`, `malloc` and `free`, and calls as statements.
 
 ghost use Rattle.sc_base.specs.Prelude.{most_brackets};
 ghost use Rattle.sc_parse.specs.Prelude.{Agrees, always, assigned_at, assignment_at, begins_value, call_statement};
 ghost use Rattle.sc_parse.specs.Prelude.{change_at, change_of, changed, compound_of, makes_value, mark_at, mark_by};
 ghost use Rattle.sc_parse.specs.Prelude.{operand_at, part_at, place_at, simple_at, step_at, step_of, stepped, test_at};
-ghost use Rattle.sc_parse.specs.Prelude.{unstepped, updates};
-ghost use Rattle.std.specs.Prelude.{◌≡◌, ◌≤◌, ◌+◌, drop, length, IsSome, IfOk, Some};
+ghost use Rattle.sc_parse.specs.Prelude.{unfreed, unstepped, updates, value_assigned};
+ghost use Rattle.std.specs.Prelude.{◌≡◌, ◌≤◌, ◌<◌, ◌+◌, drop, length, IsSome, IfOk, Some};
 ghost use Rattle.sc_parse.specs.Statements.{one};
 ghost use Rattle.sc_parse.specs.StmtReaders.{step_before};
 
 use crate::calls::{call_at, expr_at};
 use crate::copy::copy_expr;
+use crate::heap::{allocated_at, free_statement, is_free, is_malloc};
 use crate::lookahead::{begins_call, begins_with, first_line, past};
 use sc_ast::{ExprTree, Literal, PlaceTree, SimpleKind, SimpleTree};
 use sc_base::{BinaryOp, MAX_BRACKETS, UNARY};
 use sc_parse_expr::{
-    Built, Lexeme, Mark, Symbol, SyntaxFault, parse_level, refused, refused_before,
+    Built, Lexeme, Mark, Symbol, SyntaxFault, keyword_at, parse_level, refused, refused_before,
 };
 use sqlite_items::Boxed;
 use std::alloc::{AllocError, Global};
@@ -149,14 +150,14 @@ fn place_at(alloc: Global, room: u32, rest: &mut &[Lexeme]) -> Result<Placed, Sy
     }
 }
 
-#[tactic(auto, unfolding(crate::specs::StmtReaders::assigned_at))]
-fn assigned_at(
+// What follows `=`, where it is no `malloc`.
+fn value_assigned(
     alloc: Global,
     room: u32,
     place: PlaceTree,
     rest: &mut &[Lexeme],
 ) -> Result<SimpleKind, SyntaxFault>
-    ensures { Agrees (λ x. (x, rest.new.now)) result (assigned_at most_brackets room place rest.old.now) }
+    ensures { Agrees (λ x. (x, rest.new.now)) result (value_assigned most_brackets room place rest.old.now) }
 {
     if begins_call(rest) {
         let call = call_at(alloc, room, rest)?;
@@ -164,6 +165,24 @@ fn assigned_at(
     } else {
         let value = expr_at(alloc, room, rest)?;
         Ok(SimpleKind::Assign { place, value })
+    }
+}
+
+#[tactic(auto, unfolding(crate::specs::StmtReaders::assigned_at))]
+fn assigned_at(
+    alloc: Global,
+    room: u32,
+    place: PlaceTree,
+    rest: &mut &[Lexeme],
+) -> Result<SimpleKind, SyntaxFault>
+    requires { room < 4294967295 }
+    ensures { Agrees (λ x. (x, rest.new.now)) result (assigned_at most_brackets room place rest.old.now) }
+{
+    if is_malloc(keyword_at(rest)) {
+        *rest = past(rest);
+        allocated_at(alloc, room, place, rest)
+    } else {
+        value_assigned(alloc, room, place, rest)
     }
 }
 
@@ -232,6 +251,7 @@ fn changed(
     placed: Placed,
     rest: &mut &[Lexeme],
 ) -> Result<SimpleKind, SyntaxFault>
+    requires { room < 4294967295 }
     ensures { Agrees (λ x. (x, rest.new.now)) result (changed most_brackets room change placed rest.old.now) }
 {
     match change {
@@ -254,6 +274,7 @@ fn take_change(rest: &mut &[Lexeme]) -> Option<Change>
 
 #[tactic(auto, unfolding(crate::specs::StmtReaders::assignment_at))]
 fn assignment_at(alloc: Global, room: u32, rest: &mut &[Lexeme]) -> Result<SimpleKind, SyntaxFault>
+    requires { room < 4294967295 }
     ensures { Agrees (λ x. (x, rest.new.now)) result (assignment_at most_brackets room rest.old.now) }
 {
     let placed = place_at(alloc, room, rest)?;
@@ -283,6 +304,7 @@ fn call_statement(alloc: Global, room: u32, rest: &mut &[Lexeme]) -> Result<Simp
 /// What may stand in the head of a `for`, where its parts are at most `room` high.
 #[tactic(auto, unfolding(crate::specs::StmtReaders::simple_at))]
 pub fn simple_at(alloc: Global, room: u32, rest: &mut &[Lexeme]) -> Result<SimpleKind, SyntaxFault>
+    requires { room < 4294967295 }
     ensures { Agrees (λ x. (x, rest.new.now)) result (simple_at most_brackets room rest.old.now) }
 {
     match step_at(rest) {
@@ -295,7 +317,20 @@ pub fn simple_at(alloc: Global, room: u32, rest: &mut &[Lexeme]) -> Result<Simpl
 }
 
 fn unstepped(alloc: Global, room: u32, rest: &mut &[Lexeme]) -> Result<SimpleKind, SyntaxFault>
+    requires { room < 4294967295 }
     ensures { Agrees (λ x. (x, rest.new.now)) result (unstepped most_brackets room rest.old.now) }
+{
+    if is_free(keyword_at(rest)) {
+        *rest = past(rest);
+        free_statement(alloc, room, rest)
+    } else {
+        unfreed(alloc, room, rest)
+    }
+}
+
+fn unfreed(alloc: Global, room: u32, rest: &mut &[Lexeme]) -> Result<SimpleKind, SyntaxFault>
+    requires { room < 4294967295 }
+    ensures { Agrees (λ x. (x, rest.new.now)) result (unfreed most_brackets room rest.old.now) }
 {
     if begins_call(rest) {
         call_statement(alloc, room, rest)

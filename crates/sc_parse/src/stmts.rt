@@ -6,16 +6,14 @@ ghost use Rattle.sc_parse.specs.Prelude.{ended_at, first_part, for_head, is_else
 ghost use Rattle.sc_parse.specs.Prelude.{loop_of, middle_part, plain_at, returned, simple_or_none, stmt_at};
 ghost use Rattle.sc_parse.specs.Prelude.{stmt_within, stmts_at, value_returned};
 ghost use Rattle.sc_ast.specs.Prelude.{stmt_kind_of};
-ghost use Rattle.std.specs.Prelude.{◌≡◌, ◌≤◌, ◌+◌, [], ◌∷◌, length, drop, true, false, IfOk};
+ghost use Rattle.std.specs.Prelude.{◌≡◌, ◌≤◌, ◌<◌, ◌+◌, [], ◌∷◌, length, drop, true, false, IfOk};
 ghost use Rattle.sc_parse.specs.StmtReaders.{lone_if};
 
 use crate::calls::{call_at, condition_at, expr_at};
-use crate::lookahead::{
-    begins_call, begins_with, ended_by, first_line, is_else, keyword_at, past, take,
-};
+use crate::lookahead::{begins_call, begins_with, ended_by, first_line, is_else, past, take};
 use crate::simple::{part_at, simple_at, test_at};
 use sc_ast::{ExprTree, SimpleKind, SimpleTree, StmtKind, StmtTree, Stmts};
-use sc_parse_expr::{Keyword, Lexeme, Mark, SyntaxFault, refused};
+use sc_parse_expr::{Keyword, Lexeme, Mark, SyntaxFault, keyword_at, refused};
 use sqlite_items::Items;
 use std::alloc::Global;
 
@@ -34,6 +32,8 @@ fn kind_of(kind: SimpleKind) -> StmtKind
         SimpleKind::Assign { place, value } => StmtKind::Assign { place, value },
         SimpleKind::AssignCall { place, call } => StmtKind::AssignCall { place, call },
         SimpleKind::Call(call) => StmtKind::Call(call),
+        SimpleKind::Malloc { place, count, of } => StmtKind::Malloc { place, count, of },
+        SimpleKind::Free(pointer) => StmtKind::Free(pointer),
     }
 }
 
@@ -60,6 +60,7 @@ fn returned(alloc: Global, room: u32, rest: &mut &[Lexeme]) -> Result<StmtKind, 
 }
 
 fn simple_or_none(alloc: Global, room: u32, rest: &mut &[Lexeme]) -> Result<StmtKind, SyntaxFault>
+    requires { room < 4294967295 }
     ensures { Agrees (λ x. (x, rest.new.now)) result (simple_or_none most_brackets room rest.old.now) }
 {
     if begins_with(Mark::Semicolon, rest) {
@@ -77,6 +78,7 @@ fn plain_at(
     word: Option<Keyword>,
     rest: &mut &[Lexeme],
 ) -> Result<StmtKind, SyntaxFault>
+    requires { room < 4294967295 }
     ensures { Agrees (λ x. (x, rest.new.now)) result (plain_at most_brackets room word rest.old.now) }
 {
     match word {
@@ -98,6 +100,7 @@ fn plain_at(
 
 #[tactic(auto, unfolding(crate::specs::StmtReaders::ended_at))]
 fn ended_at(alloc: Global, room: u32, rest: &mut &[Lexeme]) -> Result<StmtKind, SyntaxFault>
+    requires { room < 4294967295 }
     ensures { Agrees (λ x. (x, rest.new.now)) result (ended_at most_brackets room rest.old.now) }
 {
     let kind = plain_at(alloc, room, keyword_at(rest), rest)?;
@@ -278,6 +281,7 @@ fn kind_by(
     word: Option<Keyword>,
     rest: &mut &[Lexeme],
 ) -> Result<StmtKind, SyntaxFault>
+    requires { room < 4294967295 }
     ensures { Agrees (λ x. (x, rest.new.now)) result
         (kind_by most_brackets (stmt_at most_brackets room) room word rest.old.now) }
 {
@@ -302,6 +306,7 @@ fn kind_by(
 #[cycle(statements)]
 #[tactic(auto, unfolding(crate::specs::StmtReaders::stmt_within))]
 fn stmt_within(alloc: Global, room: u32, rest: &mut &[Lexeme]) -> Result<StmtTree, SyntaxFault>
+    requires { room < 4294967295 }
     ensures { Agrees (λ x. (x, rest.new.now)) result
         (stmt_within most_brackets (stmt_at most_brackets room) room rest.old.now) }
 {

@@ -1,58 +1,11 @@
-//! Types and declarators.
+//! Declarators.
 
-ghost use Rattle.sc_parse.specs.Prelude.{Agrees, base_at, base_by, bracketed_length, declarator_at, elements_at};
-ghost use Rattle.sc_parse.specs.Prelude.{length_at, type_name_at};
-ghost use Rattle.std.specs.Prelude.{◌≡◌, ◌+◌, length};
+ghost use Rattle.sc_parse.specs.Prelude.{Agrees, bracketed_length, declarator_at, elements_at, length_at};
+ghost use Rattle.std.specs.Prelude.{◌≡◌, length};
 
-use crate::lookahead::{integer_by, keyword_at, name_at, past_int, skip, star_count, take};
-use sc_ast::{ArrayLength, BaseTree, Ident, TypeName};
-use sc_parse_expr::{Keyword, Lexeme, Mark, SyntaxFault, refused, refused_before};
-
-// The base that a reserved word begins, where these lexemes follow it. A word that begins none is refused itself.
-fn base_by(word: Option<Keyword>, rest: &mut &[Lexeme]) -> Result<BaseTree, SyntaxFault>
-    ensures { Agrees (λ x. (x, rest.new.now)) result (base_by word rest.old.now) }
-{
-    match word {
-        Some(Keyword::Int) => Ok(BaseTree::Int),
-        Some(Keyword::Signed) => {
-            *rest = past_int(rest);
-            Ok(BaseTree::Int)
-        }
-        Some(Keyword::Unsigned) => {
-            *rest = past_int(rest);
-            Ok(BaseTree::Unsigned)
-        }
-        Some(Keyword::Struct) => Ok(BaseTree::Struct(name_at(rest)?)),
-        _ => Err(refused_before(rest)),
-    }
-}
-
-/// What a declaration begins with.
-#[tactic(auto, unfolding(crate::specs::Readers::base_at))]
-pub fn base_at(rest: &mut &[Lexeme]) -> Result<BaseTree, SyntaxFault>
-    ensures { Agrees (λ x. (x, rest.new.now)) result (base_at rest.old.now) }
-{
-    let word = keyword_at(rest);
-    let [_, following @ ..] = *rest else {
-        return Err(refused(rest));
-    };
-    *rest = following;
-    base_by(word, rest)
-}
-
-/// The type of a parameter or of a result.
-#[tactic(auto, unfolding(crate::specs::Readers::type_name_at))]
-pub fn type_name_at(rest: &mut &[Lexeme]) -> Result<TypeName, SyntaxFault>
-    ensures { Agrees (λ x. (x, rest.new.now)) result (type_name_at rest.old.now) }
-{
-    let base = base_at(rest)?;
-    let stars = star_count(rest);
-    *rest = &rest[stars..];
-    Ok(TypeName {
-        base,
-        stars: stars as u64,
-    })
-}
+use crate::lookahead::{integer_by, skip, take};
+use sc_ast::{ArrayLength, Ident};
+use sc_parse_expr::{Lexeme, Mark, SyntaxFault, name_at, refused, star_count};
 
 fn elements_at(rest: &mut &[Lexeme]) -> Result<ArrayLength, SyntaxFault>
     ensures { Agrees (λ x. (x, rest.new.now)) result (elements_at rest.old.now) }

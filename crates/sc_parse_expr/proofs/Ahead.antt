@@ -9,6 +9,7 @@ use Rattle.sc_base.specs.declared.op.BinaryOp.TheVariants as binary
 use Rattle.sc_parse_expr.specs.contracts.mark.Mark.{the_type}
 use denote.Enum.Bare.{same_true}
 use Rattle.sc_parse_expr.specs.declared.mark.Mark.TheVariants as mark
+use Rattle.sc_parse_expr.specs.declared.mark.Keyword.TheVariants as word
 use Rattle.sc_parse_expr.specs.declared.operator.Extension.TheVariants as extension
 use Rattle.sc_parse_expr.specs.declared.lexeme.Symbol.TheVariants as symbol
 use Rattle.sc_parse_expr.specs.declared.parser.Lead.TheVariants as lead
@@ -139,10 +140,17 @@ name_ahead (t ∷ ts) us name h =
 
 pub paren_lead : (s : Symbol) → lead_of s ≡ Some lead.Paren → s ≡ symbol.Mark mark.OpenParen
 paren_lead (symbol.Mark mark.OpenParen) h = refl
+paren_lead (symbol.Keyword word.Sizeof) h = absurd cc
 paren_lead _ h = absurd cc
+
+pub size_lead : (s : Symbol) → lead_of s ≡ Some lead.SizeOf → s ≡ symbol.Keyword word.Sizeof
+size_lead (symbol.Keyword word.Sizeof) h = refl
+size_lead (symbol.Mark mark.OpenParen) h = absurd cc
+size_lead _ h = absurd cc
 
 pub prefix_lead : (s : Symbol) (p : Prefix) → lead_of s ≡ Some (lead.Prefix p) →
     (m : Mark) × (s ≡ symbol.Mark m) × (prefix_of m ≡ Some p)
 prefix_lead (symbol.Mark mark.OpenParen) p h = absurd cc
+prefix_lead (symbol.Keyword word.Sizeof) p h = absurd cc
 prefix_lead (symbol.Mark m) p h = (m, refl, cc)
 prefix_lead _ p h = absurd cc

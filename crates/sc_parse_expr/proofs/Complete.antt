@@ -3,6 +3,7 @@ use Rattle.sc_parse_expr.proofs.Common.{ExprTree, Extension, IsMark, Lexeme, Lis
 use Rattle.sc_parse_expr.proofs.Common.{Spells, [], ap, append_assoc, arith, arrow, cond, expr_height, extended_with}
 use Rattle.sc_parse_expr.proofs.Common.{extension_by, extension_level, extension_of, extension_within, found, go_on}
 use Rattle.sc_parse_expr.proofs.Common.{index, joined, joined_with, le-leb, lead_by, level_of, literal, looser, lt-leb}
+use Rattle.sc_parse_expr.proofs.Common.{lt-ltb, size_of}
 use Rattle.sc_parse_expr.proofs.Common.{member, most_open, none-some, operand_with, parenthesised, prefix_of, read}
 use Rattle.sc_parse_expr.proofs.Common.{read_nested, refl, subst, suc, sym, variable, within, zero, «prefix», ℕ, ◌++◌}
 use Rattle.sc_parse_expr.proofs.Common.{◌+◌, ◌-◌, ◌<◌, ◌∙◌, ◌∷◌, ◌≡◌, ◌≤◌}
@@ -12,9 +13,10 @@ use Rattle.sc_parse_expr.specs.declared.lexeme.Symbol.TheVariants as symbol
 use Rattle.sc_parse_expr.specs.declared.parser.Lead.TheVariants as lead
 use Rattle.sc_parse_expr.proofs.Ahead.{Onward, same_some, no_unary, mark_operator}
 use Rattle.sc_parse_expr.proofs.Heights.{literal_height, variable_height, prefixed_height, joined_height, index_height}
-use Rattle.sc_parse_expr.proofs.Heights.{member_height, arrow_height, positive}
+use Rattle.sc_parse_expr.proofs.Heights.{member_height, arrow_height, positive, size_height}
+use Rattle.sc_parse_expr.proofs.TypeNames.{parens_complete}
 use Rattle.sc_parse_expr.proofs.Balance.{Opens, Closes, says, plain_binary, plain_prefix, open_low, most_after}
-use Rattle.sc_parse_expr.proofs.Balance.{most_bracketed, most_plain}
+use Rattle.sc_parse_expr.proofs.Balance.{most_bracketed, most_plain, most_sized}
 use Rattle.sc_parse_expr.proofs.Steps.{read_goes, nested_at, turns_on, turns_end}
 
 quiet_by : (level : ℕ) (us : List Lexeme) (o : Option Extension) →
@@ -61,7 +63,7 @@ takes d on free (suc room) level n rest inside low few may =
 
 module _ {free room level : ℕ} where
   from_operand : {ts rest : List Lexeme} {e : ExprTree} → 1 ≤ expr_height e →
-      operand_with (read_nested free) (read free room) room ts ≡ Some (found e (expr_height e) rest) →
+      operand_with free (read_nested free) (read free room) room ts ≡ Some (found e (expr_height e) rest) →
       Arrives free room level ts e rest
   from_operand some operand = let next : suc room ≡ room + 1 = omega arith in record {
     turns = suc room;
@@ -117,6 +119,13 @@ goes (parenthesised {ts = ts} {e = e} t u is closes d) free room level n rest in
     let inner = bracketed free (room + 1) n ts rest e t u _ (says t (symbol.Mark _) is) (says u (symbol.Mark _) closes)
     closes refl d (goes d) (omega arith) few in
     rw append_assoc (from_operand (positive d) (rw (is, inner, closes)))
+goes (size_of {of = of} t u v is opens closes d) free room level n rest inside low few may =
+    let height = size_height of in
+    let most = most_sized n t u v (says t (symbol.Keyword _) is) (says u (symbol.Mark _) opens)
+    (says v (symbol.Mark _) closes) d in
+    let some = lt-ltb 0 free (omega (arith, most)) in
+    let named = parens_complete u v opens closes d rest in
+    rw append_assoc (from_operand (omega arith) (rw (is, some, named, height)))
 goes (index {us = us} {e = e} {f = f} t u is closes d g) free room level n rest inside low few may =
     let height = index_height e f in
     from_turn n t _ is refl refl d (goes d) (omega arith) (omega arith) low few (λ less.

@@ -1,7 +1,7 @@
 -- The height of each form of expression.
 use Rattle.sc_parse_expr.proofs.Common.{BinaryOp, ExprTree, Lexeme, List, Number, Prefix, Spells, arith, arrow}
-use Rattle.sc_parse_expr.proofs.Common.{expr_height, index, joined, literal, looser, max, member, parenthesised}
-use Rattle.sc_parse_expr.proofs.Common.{prefixed, rules, variable, «prefix», ℕ, ◌+◌, ◌≡◌, ◌≤◌}
+use Rattle.sc_parse_expr.proofs.Common.{TypeName, expr_height, index, joined, literal, looser, max, member}
+use Rattle.sc_parse_expr.proofs.Common.{parenthesised, prefixed, rules, size_of, variable, «prefix», ℕ, ◌+◌, ◌≡◌, ◌≤◌}
 use Rattle.sc_ast.specs.declared.expr.ExprTree.{the_lemmas}
 use Rattle.sc_ast.specs.declared.expr.ExprTree.TheVariants as expr
 use Rattle.sc_parse_expr.specs.declared.operator.Prefix.TheVariants as prefix
@@ -11,6 +11,9 @@ literal_height number = search (rules, the_lemmas)
 
 pub variable_height : (name : List ℕ) → expr_height (expr.Variable name) ≡ 1
 variable_height name = search (rules, the_lemmas)
+
+pub size_height : (of : TypeName) → expr_height (expr.SizeOf of) ≡ 1
+size_height of = search (rules, the_lemmas)
 
 pub prefixed_height : (p : Prefix) (e : ExprTree) → expr_height (prefixed p e) ≡ expr_height e + 1
 prefixed_height (prefix.Operator op) e = search (rules, the_lemmas)
@@ -35,6 +38,7 @@ pub positive : {level : ℕ} {ts : List Lexeme} {e : ExprTree} → Spells level 
 positive (literal t number is) = let h = literal_height number in omega arith
 positive (variable t name is) = let h = variable_height name in omega arith
 positive (parenthesised t u o q d) = positive d
+positive (size_of {of = of} t u v k o q d) = let h = size_height of in omega arith
 positive (index {e = e} {f = f} t u o q d g) = let h = index_height e f in omega arith
 positive (member {e = e} t u name o is d) = let h = member_height e name in omega arith
 positive (arrow {e = e} t u name o is d) = let h = arrow_height e name in omega arith

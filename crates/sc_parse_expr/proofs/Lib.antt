@@ -3,6 +3,8 @@ pub mod Steps
 pub mod Heights
 pub mod Balance
 pub mod Ahead
+pub mod Taken
+pub mod TypeNames
 pub mod Sound
 pub mod Complete
 pub mod Theorem

@@ -1,5 +1,6 @@
 -- What is read is spelled so, and within the limits.
-use Rattle.sc_parse_expr.proofs.Common.{ExprTree, Extension, Found, IsMark, Lexeme, List, Mark, None, Option, Prefix}
+use Rattle.sc_parse_expr.proofs.Common.{ExprTree, Extension, Found, IsKeyword, IsMark, Lexeme, List, Mark, None, Option}
+use Rattle.sc_parse_expr.proofs.Common.{Prefix, append_assoc, ltb-true, nat_lt, size_of, size_within, type_in_parens}
 use Rattle.sc_parse_expr.proofs.Common.{Reader, Some, Spells, Symbol, [], ap, arith, arrow, cases_lt, expr_height}
 use Rattle.sc_parse_expr.proofs.Common.{extended_with, extension_at, extension_by, extension_level, extension_within}
 use Rattle.sc_parse_expr.proofs.Common.{following, found, go_on, index, joined, joined_with, lead_of, lead_with}
@@ -9,16 +10,18 @@ use Rattle.sc_parse_expr.proofs.Common.{refl, subst, suc, sym, true, turn_with, 
 use Rattle.sc_parse_expr.proofs.Common.{◌++◌, ◌+◌, ◌-◌, ◌<◌, ◌>>=◌, ◌∙◌, ◌∷◌, ◌≡◌, ◌≤◌}
 use Rattle.sc_parse_expr.specs.declared.parser.Lead.{Lead}
 use Rattle.sc_parse_expr.specs.declared.mark.Mark.TheVariants as mark
+use Rattle.sc_parse_expr.specs.declared.mark.Keyword.TheVariants as word
 use Rattle.sc_parse_expr.specs.declared.operator.Extension.TheVariants as extension
 use Rattle.sc_parse_expr.specs.declared.lexeme.Symbol.TheVariants as symbol
 use Rattle.sc_parse_expr.specs.declared.parser.Lead.TheVariants as lead
 use Rattle.sc_parse_expr.proofs.Ahead.{same_some, bound, cond_is, glued, operator_low, operator_mark, extension_mark}
 use Rattle.sc_parse_expr.proofs.Ahead.{Ahead, ahead, Onward, nothing_within, first_mark, name_ahead, paren_lead}
-use Rattle.sc_parse_expr.proofs.Ahead.{prefix_lead}
+use Rattle.sc_parse_expr.proofs.Ahead.{prefix_lead, size_lead}
+use Rattle.sc_parse_expr.proofs.TypeNames.{parens_sound}
 use Rattle.sc_parse_expr.proofs.Heights.{literal_height, variable_height, prefixed_height, joined_height, index_height}
-use Rattle.sc_parse_expr.proofs.Heights.{member_height, arrow_height}
+use Rattle.sc_parse_expr.proofs.Heights.{member_height, arrow_height, size_height}
 use Rattle.sc_parse_expr.proofs.Balance.{IsPlain, says, plain_binary, plain_prefix, most_after, most_bracketed}
-use Rattle.sc_parse_expr.proofs.Balance.{most_plain}
+use Rattle.sc_parse_expr.proofs.Balance.{most_plain, most_sized}
 
 -- The lexemes begin with an expression: it is spelled at this level within the limits, and an extension after it is of
 -- level `least` or a looser one.
@@ -83,8 +86,28 @@ module _ (free room : ℕ) (nested : ℕ → ℕ → Reader) (below : ℕ → Re
       (one_stands t ts _ (says t (symbol.Ident name) is) (variable t name is) (variable_height name))
   leaf_sound t ts x _ is h = absurd (none-some x h)
 
+  size_sound : (t : Lexeme) (ts : List Lexeme) (x : Found) → IsKeyword word.Sizeof t → size_within free ts ≡ Some x →
+      At 0 (t ∷ ts) x
+  size_sound t ts x is h =
+      let some = cond_is (nat_lt 0 free) _ x h in
+      let b = bound _ (type_in_parens ts) x some.1 in
+      let p = parens_sound ts b.0.1 b.0.0 b.1 in
+      let plain = says t (symbol.Keyword _) is in
+      let u = p.opening in
+      let v = p.closing in
+      subst (At 0 (t ∷ ts)) (same_some b.2) (record {
+        taken = t ∷ u ∷ (p.taken ++ v ∷ []);
+        split = ap (λ rest. t ∷ rest) p.split ∙ ap (λ rest. t ∷ u ∷ rest) (sym (append_assoc p.taken (v ∷ []) b.0.1));
+        spelled = size_of t u v is p.opens p.closes p.spelled;
+        measured = sym (size_height b.0.0);
+        low = omega arith;
+        few = λ n. let most = most_sized n t u v plain (says u (symbol.Mark _) p.opens) (says v (symbol.Mark _)
+            p.closes) p.spelled in omega (arith, most, ltb-true 0 free some.0);
+        onward = λ ext at. omega arith;
+      })
+
   lead_sound : (t : Lexeme) (ts : List Lexeme) (x : Found) (o : Option Lead) → lead_of t.symbol ≡ o →
-      lead_with nested below room o t ts ≡ Some x → (c : ℕ) × (c ≤ 1) × At c (t ∷ ts) x
+      lead_with free nested below room o t ts ≡ Some x → (c : ℕ) × (c ≤ 1) × At c (t ∷ ts) x
   lead_sound t ts x (Some lead.Paren) first h =
       let is : IsMark _ t = paren_lead _ first in
       let b = bound _ (nested (room + 1) 11 ts) x h in
@@ -122,9 +145,10 @@ module _ (free room : ℕ) (nested : ℕ → ℕ → Reader) (below : ℕ → Re
           onward = λ ext at. omega (arith, inner.onward ext at);
         }),
       )
+  lead_sound t ts x (Some lead.SizeOf) first h = (0, omega arith, size_sound t ts x (size_lead _ first) h)
   lead_sound t ts x None first h = (0, omega arith, leaf_sound t ts x _ refl h)
 
-  operand_sound : (ts : List Lexeme) (x : Found) → operand_with nested below room ts ≡ Some x →
+  operand_sound : (ts : List Lexeme) (x : Found) → operand_with free nested below room ts ≡ Some x →
       (c : ℕ) × (c ≤ 1) × At c ts x
   unfolding operand_with
   operand_sound [] x h = absurd (none-some x h)
@@ -222,9 +246,9 @@ module _ (free room : ℕ) (nested : ℕ → ℕ → Reader) (below : ℕ → Re
       turn_sound level turns c ts x y _ (λ l z. loop_sound level turns l ts z y) low s refl h
 
   level_sound : (level : ℕ) (ts : List Lexeme) (x : Found) → 0 < level →
-      level_with nested below room level ts ≡ Some x → Reads free (suc room) level ts x
+      level_with free nested below room level ts ≡ Some x → Reads free (suc room) level ts x
   level_sound level ts x some h =
-      let b = bound _ (operand_with nested below room ts) x h in
+      let b = bound _ (operand_with free nested below room ts) x h in
       let first = operand_sound ts b.0 b.1 in
       let tight = first.1 in
       loop_sound level _ first.0 ts b.0 x (omega arith) first.2 b.2
@@ -232,7 +256,7 @@ module _ (free room : ℕ) (nested : ℕ → ℕ → Reader) (below : ℕ → Re
 within_sound : (free : ℕ) (nested : ℕ → ℕ → Reader) →
     ((levels level : ℕ) (ts : List Lexeme) (x : Found) → 0 < level → nested levels level ts ≡ Some x →
     (0 < free) × Reads (free - 1) levels level ts x) →
-    (room level : ℕ) (ts : List Lexeme) (x : Found) → 0 < level → read_within nested room level ts ≡ Some x →
+    (room level : ℕ) (ts : List Lexeme) (x : Found) → 0 < level → read_within free nested room level ts ≡ Some x →
     Reads free room level ts x
 unfolding read_within
 within_sound free nested inside zero level ts x some h = absurd (none-some x h)

@@ -3,9 +3,12 @@ use Rattle.sc_parse_expr.proofs.Common.{Extension, Fails, Found, Lexeme, List, N
 use Rattle.sc_parse_expr.proofs.Common.{Refused, Some, SyntaxFault, ap, arith, extended_with, extension_within, go_on}
 use Rattle.sc_parse_expr.proofs.Common.{level_with, operand_with, read, read_nested, read_within, refl, suc, zero, ℕ}
 use Rattle.sc_parse_expr.proofs.Common.{◌+◌, ◌<◌, ◌≡◌}
+use Rattle.std.proofs.lemmas.List.Sums.{prefix_len-le-length}
+
+pub ruleset lengths = (prefix_len-le-length)
 
 pub read_at : (free room below level : ℕ) (ts : List Lexeme) → room ≡ below + 1 →
-    read free room level ts ≡ level_with (read_nested free) (read free below) below level ts
+    read free room level ts ≡ level_with free (read_nested free) (read free below) below level ts
 unfolding read read_within
 read_at free zero below level ts h = absurd (omega arith)
 read_at zero (suc room) below level ts h = let e : room ≡ below = omega arith in rw e
@@ -28,11 +31,11 @@ nested_none (suc free) room level ts h = absurd (omega arith)
 
 -- reading a level begins with an operand
 pub read_fails : (free room below level : ℕ) (ts : List Lexeme) → room ≡ below + 1 →
-    operand_with (read_nested free) (read free below) below ts ≡ None → read free room level ts ≡ None
+    operand_with free (read_nested free) (read free below) below ts ≡ None → read free room level ts ≡ None
 read_fails free room below level ts h none = rw (read_at free room below level ts h, none)
 
 pub read_goes : (free room below level turns : ℕ) (ts : List Lexeme) (x : Found) → room ≡ below + 1 → turns ≡ room →
-    operand_with (read_nested free) (read free below) below ts ≡ Some x →
+    operand_with free (read_nested free) (read free below) below ts ≡ Some x →
     read free room level ts ≡ go_on (read_nested free) (read free below) below level turns x
 read_goes free room below level turns ts x h same some =
     let e : below + 1 ≡ turns = omega arith in rw (read_at free room below level ts h, some, e)

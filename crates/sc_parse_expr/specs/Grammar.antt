@@ -2,29 +2,27 @@
 use Rattle.sc_parse_expr.specs.Common.{BinaryOp, ExprTree, Number, level_of, loosest_level, postfix_level, unary_level}
 use Rattle.std.specs.Prelude.{◌≡◌, ℕ, suc, List, [], ◌∷◌, ◌++◌, Some}
 use Rattle.sc_ast.specs.declared.expr.ExprTree.TheVariants as expr
+use Rattle.sc_ast.specs.declared.types.TypeName.{TypeName}
 use Rattle.sc_parse_expr.specs.declared.mark.Mark.{Mark}
 use Rattle.sc_parse_expr.specs.declared.mark.Mark.TheVariants as mark
+use Rattle.sc_parse_expr.specs.declared.mark.Keyword.TheVariants as word
 use Rattle.sc_parse_expr.specs.declared.operator.Prefix.{Prefix}
 use Rattle.sc_parse_expr.specs.declared.lexeme.Symbol.TheVariants as symbol
 use Rattle.sc_parse_expr.specs.declared.lexeme.Lexeme.{Lexeme}
+use Rattle.sc_parse_expr.specs.Lexemes.{IsIdent, IsKeyword, IsMark}
 use Rattle.sc_parse_expr.specs.Marks.{binary_of, prefix_of, prefixed}
-
--- the lexeme is this mark
-abbrev pub IsMark : Mark → Lexeme → Type 0
-IsMark m t = t.symbol ≡ symbol.Mark m
-
--- the lexeme is this identifier
-abbrev pub IsIdent : List ℕ → Lexeme → Type 0
-IsIdent name t = t.symbol ≡ symbol.Ident name
+use Rattle.sc_parse_expr.specs.Types.{SpellsTypeName}
 
 -- The lexemes spell this expression at this level.
 pub data Spells : ℕ → List Lexeme → ExprTree → Type 0 where
-  -- an integer, an identifier, or an expression in parentheses, which leave no mark
+  -- an integer, an identifier, an expression in parentheses, which leave no mark, or the size of a type
   literal : (t : Lexeme) (number : Number) → t.symbol ≡ symbol.Integer number →
       Spells postfix_level (t ∷ []) (expr.Literal number)
   variable : (t : Lexeme) (name : List ℕ) → IsIdent name t → Spells postfix_level (t ∷ []) (expr.Variable name)
   parenthesised : {ts : List Lexeme} {e : ExprTree} (t u : Lexeme) → IsMark mark.OpenParen t →
       IsMark mark.CloseParen u → Spells loosest_level ts e → Spells postfix_level (t ∷ (ts ++ u ∷ [])) e
+  size_of : {ts : List Lexeme} {of : TypeName} (t u v : Lexeme) → IsKeyword word.Sizeof t → IsMark mark.OpenParen u →
+      IsMark mark.CloseParen v → SpellsTypeName ts of → Spells postfix_level (t ∷ u ∷ (ts ++ v ∷ [])) (expr.SizeOf of)
   -- a postfix expression, and an index or the name of a member after it
   index : {ts us : List Lexeme} {e f : ExprTree} (t u : Lexeme) → IsMark mark.OpenSquare t → IsMark mark.CloseSquare u →
       Spells postfix_level ts e → Spells loosest_level us f →

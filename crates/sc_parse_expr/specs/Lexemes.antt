@@ -1,7 +1,8 @@
 -- What tokens say.
 use Rattle.sc_parse_expr.specs.Common.{Number, ident_of, name_of, number_typed}
 use Rattle.sc_lex.specs.Prelude.{heading_name, integer_of, words}
-use Rattle.std.specs.Prelude.{ℕ, bytes_eq, codes, List, [], ◌∷◌, get_or, slice_range, Option, Some, None, if◌then◌else◌}
+use Rattle.std.specs.Prelude.{◌≡◌, ℕ, bytes_eq, codes, List, [], ◌∷◌, get_or, slice_range, Option, Some, None}
+use Rattle.std.specs.Prelude.{if◌then◌else◌}
 use Rattle.std.specs.Option.{option_map, option_and_then}
 use Rattle.sc_lex.specs.declared.token.Token.{Token}
 use Rattle.sc_lex.specs.declared.token.TokenKind.{TokenKind}
@@ -41,8 +42,9 @@ mark_texts =
 abbrev pub keyword_texts : List (List ℕ × Keyword)
 keyword_texts =
     (codes "break", word.Break) ∷ (codes "continue", word.Continue) ∷ (codes "else", word.Else) ∷
-    (codes "for", word.For) ∷ (codes "if", word.If) ∷ (codes "int", word.Int) ∷ (codes "return", word.Return) ∷
-    (codes "signed", word.Signed) ∷ (codes "struct", word.Struct) ∷ (codes "unsigned", word.Unsigned) ∷
+    (codes "for", word.For) ∷ (codes "free", word.Free) ∷ (codes "if", word.If) ∷ (codes "int", word.Int) ∷
+    (codes "malloc", word.Malloc) ∷ (codes "return", word.Return) ∷ (codes "signed", word.Signed) ∷
+    (codes "sizeof", word.Sizeof) ∷ (codes "struct", word.Struct) ∷ (codes "unsigned", word.Unsigned) ∷
     (codes "void", word.Void) ∷ (codes "while", word.While) ∷ []
 
 unfoldable pub mark_of : List ℕ → Option Mark
@@ -92,3 +94,15 @@ symbol_of bytes token = or_unused (says token.kind (slice_range bytes token.star
 -- a token of these bytes as a lexeme
 abbrev pub lexeme_of : List ℕ → Token → Lexeme
 lexeme_of bytes token = record { symbol = symbol_of bytes token; line = token.line }
+
+-- the lexeme is this mark
+abbrev pub IsMark : Mark → Lexeme → Type 0
+IsMark m t = t.symbol ≡ symbol.Mark m
+
+-- the lexeme is this identifier
+abbrev pub IsIdent : List ℕ → Lexeme → Type 0
+IsIdent name t = t.symbol ≡ symbol.Ident name
+
+-- the lexeme is this reserved word
+abbrev pub IsKeyword : Keyword → Lexeme → Type 0
+IsKeyword word t = t.symbol ≡ symbol.Keyword word

@@ -2,7 +2,9 @@ pub mod Common
 pub mod Prelude
 pub mod Marks
 pub mod Brackets
+pub mod Types
 pub mod Grammar
 pub mod Prefixes
+pub mod TypeReaders
 pub mod Reading
 pub mod Lexemes

@@ -5,6 +5,7 @@ use Rattle.std.specs.Prelude.{◌≡◌, ℕ, Bool, false, List, [], ◌∷◌, 
 use Rattle.std.specs.Prelude.{if◌then◌else◌}
 use Rattle.sc_parse_expr.specs.declared.fault.SyntaxFault.{SyntaxFault}
 use Rattle.sc_parse_expr.specs.declared.fault.SyntaxFault.TheVariants.{Refused, OutOfMemory}
+use Rattle.sc_parse_expr.specs.declared.mark.Keyword.{Keyword}
 use Rattle.sc_parse_expr.specs.declared.mark.Mark.{Mark}
 use Rattle.sc_parse_expr.specs.declared.operator.Extension.{Extension}
 use Rattle.sc_parse_expr.specs.declared.lexeme.Symbol.{Symbol}
@@ -33,6 +34,35 @@ is_mark m _ = false
 abbrev pub following : Mark → List Lexeme → Option (List Lexeme)
 following m [] = None
 following m (t ∷ ts) = if is_mark m t.symbol then Some ts else None
+
+infixl 20 ◌>>=◌
+-- what follows where something was read
+abbrev pub ◌>>=◌ : {A B : Type 0} → Option A → (A → Option B) → Option B
+None >>= f = None
+Some x >>= f = f x
+
+-- the identifier at the start, and the lexemes after it
+abbrev pub name_by : Symbol → Option (List ℕ)
+name_by (symbol.Ident name) = Some name
+name_by _ = None
+
+abbrev pub name_at : List Lexeme → Option (List ℕ × List Lexeme)
+name_at [] = None
+name_at (t ∷ ts) = name_by t.symbol >>= (λ name. Some (name, ts))
+
+abbrev pub keyword_by : Symbol → Option Keyword
+keyword_by (symbol.Keyword word) = Some word
+keyword_by _ = None
+
+-- the reserved word at the start
+abbrev pub keyword_at : List Lexeme → Option Keyword
+keyword_at [] = None
+keyword_at (t ∷ ts) = keyword_by t.symbol
+
+-- the lexemes begin with this mark
+abbrev pub begins_with : Mark → List Lexeme → Bool
+begins_with m [] = false
+begins_with m (t ∷ ts) = is_mark m t.symbol
 
 -- the extension that a symbol after an expression begins
 abbrev pub extension_by : Symbol → Option Extension

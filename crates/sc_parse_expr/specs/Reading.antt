@@ -1,9 +1,11 @@
 -- Reading an expression from the start of a list, where the brackets and the levels of height are limited.
 use Rattle.sc_base.specs.Prelude.{most_brackets, most_height}
 use Rattle.sc_parse_expr.specs.Common.{ExprTree, level_of, loosest_level, unary_level}
-use Rattle.std.specs.Prelude.{ℕ, zero, suc, ◌+◌, ◌-◌, max, nat_le, List, [], ◌∷◌, Option, Some, None, if◌then◌else◌}
+use Rattle.std.specs.Prelude.{ℕ, zero, suc, ◌+◌, ◌-◌, max, nat_le, nat_lt, List, [], ◌∷◌, Option, Some, None}
+use Rattle.std.specs.Prelude.{if◌then◌else◌}
 use Rattle.std.specs.Option.{option_map}
 use Rattle.sc_ast.specs.declared.expr.ExprTree.TheVariants as expr
+use Rattle.sc_parse_expr.specs.declared.mark.Keyword.TheVariants as word
 use Rattle.sc_parse_expr.specs.declared.mark.Mark.{Mark}
 use Rattle.sc_parse_expr.specs.declared.mark.Mark.TheVariants as mark
 use Rattle.sc_parse_expr.specs.declared.operator.Prefix.{Prefix}
@@ -17,7 +19,8 @@ use Rattle.sc_parse_expr.specs.declared.parser.Access.TheVariants as access
 use Rattle.sc_parse_expr.specs.declared.parser.Lead.{Lead}
 use Rattle.sc_parse_expr.specs.declared.parser.Lead.TheVariants as lead
 use Rattle.sc_parse_expr.specs.Marks.{prefix_of, prefixed, extension_level}
-use Rattle.sc_parse_expr.specs.Prefixes.{following, extension_at}
+use Rattle.sc_parse_expr.specs.Prefixes.{following, extension_at, name_at, ◌>>=◌}
+unfoldable use Rattle.sc_parse_expr.specs.TypeReaders.{type_in_parens}
 
 -- A tree that is read, its height, and the lexemes after it.
 pub record Found : Type 0 where
@@ -30,12 +33,6 @@ found tree height rest = record { tree = tree; height = height; rest = rest }
 
 abbrev pub Reader : Type 0
 Reader = List Lexeme → Option Found
-
-infixl 20 ◌>>=◌
--- what follows where something was read
-abbrev pub ◌>>=◌ : {A B : Type 0} → Option A → (A → Option B) → Option B
-None >>= f = None
-Some x >>= f = f x
 
 -- an expression that is one lexeme
 abbrev pub leaf_of : Symbol → Option ExprTree
@@ -50,16 +47,8 @@ lead_by m = option_map (λ p. lead.Prefix p) (prefix_of m)
 
 abbrev pub lead_of : Symbol → Option Lead
 lead_of (symbol.Mark m) = lead_by m
+lead_of (symbol.Keyword word.Sizeof) = Some lead.SizeOf
 lead_of _ = None
-
--- the identifier at the start, and the lexemes after it
-abbrev pub name_by : Symbol → Option (List ℕ)
-name_by (symbol.Ident name) = Some name
-name_by _ = None
-
-abbrev pub name_at : List Lexeme → Option (List ℕ × List Lexeme)
-name_at [] = None
-name_at (t ∷ ts) = name_by t.symbol >>= (λ name. Some (name, ts))
 
 abbrev pub within : ℕ → List Lexeme → Option Extension → Option (Extension × List Lexeme)
 within level rest None = None
@@ -73,6 +62,10 @@ extension_within level (t ∷ ts) = within level ts (extension_at (t ∷ ts))
 abbrev pub leaf_at : Reader
 leaf_at [] = None
 leaf_at (t ∷ ts) = leaf_of t.symbol >>= (λ e. Some (found e 1 ts))
+
+-- the size of a type, after `sizeof`, where `free` brackets may open
+abbrev pub size_within : ℕ → Reader
+size_within free ts = if nat_lt 0 free then type_in_parens ts >>= (λ x. Some (found (expr.SizeOf x.0) 1 x.1)) else None
 
 abbrev pub accessed : Access → ExprTree → List ℕ → ExprTree
 accessed access.Member e name = expr.Member e name
@@ -93,16 +86,6 @@ module _ (nested : ℕ → ℕ → Reader) (below : ℕ → Reader) (room : ℕ)
   -- after a unary operator
   abbrev pub prefix_with : Prefix → Reader
   prefix_with p ts = below unary_level ts >>= (λ x. Some (found (prefixed p x.tree) (x.height + 1) x.rest))
-
-  abbrev pub lead_with : Option Lead → Lexeme → Reader
-  lead_with (Some lead.Paren) t ts = paren_with ts
-  lead_with (Some (lead.Prefix p)) t ts = prefix_with p ts
-  lead_with None t ts = leaf_at (t ∷ ts)
-
-  -- what stands before all operators between operands
-  unfoldable pub operand_with : Reader
-  operand_with [] = None
-  operand_with (t ∷ ts) = lead_with (lead_of t.symbol) t ts
 
   abbrev pub joined_with : ExprTree → ℕ → Extension → Reader
   joined_with e height (extension.Operator op) ts = below (level_of op - 1) ts >>=
@@ -127,19 +110,32 @@ module _ (nested : ℕ → ℕ → Reader) (below : ℕ → Reader) (room : ℕ)
   go_on level zero x = None
   go_on level (suc turns) x = turn_with (λ y. go_on level turns y) x (extension_within level x.rest)
 
+-- Reading so where `free` brackets may open.
+module _ (free : ℕ) (nested : ℕ → ℕ → Reader) (below : ℕ → Reader) (room : ℕ) where
+  abbrev pub lead_with : Option Lead → Lexeme → Reader
+  lead_with (Some lead.Paren) t ts = paren_with nested below room ts
+  lead_with (Some (lead.Prefix p)) t ts = prefix_with nested below room p ts
+  lead_with (Some lead.SizeOf) t ts = size_within free ts
+  lead_with None t ts = leaf_at (t ∷ ts)
+
+  -- what stands before all operators between operands
+  unfoldable pub operand_with : Reader
+  operand_with [] = None
+  operand_with (t ∷ ts) = lead_with (lead_of t.symbol) t ts
+
   -- an operand, and all that extends it
   abbrev pub level_with : ℕ → Reader
-  level_with level ts = operand_with ts >>= (λ x. go_on level (room + 1) x)
+  level_with level ts = operand_with ts >>= (λ x. go_on nested below room level (room + 1) x)
 
 -- reading where this number of levels of height is left
-unfoldable pub read_within : (ℕ → ℕ → Reader) → ℕ → ℕ → Reader
-read_within nested zero level ts = None
-read_within nested (suc room) level ts = level_with nested (read_within nested room) room level ts
+unfoldable pub read_within : ℕ → (ℕ → ℕ → Reader) → ℕ → ℕ → Reader
+read_within free nested zero level ts = None
+read_within free nested (suc room) level ts = level_with free nested (read_within free nested room) room level ts
 
 -- an expression of a level, where `free` brackets may still open, at most `room` high
 unfoldable pub read : ℕ → ℕ → ℕ → Reader
-read zero = read_within (λ room level ts. None)
-read (suc free) = read_within (read free)
+read zero = read_within zero (λ room level ts. None)
+read (suc free) = read_within (suc free) (read free)
 
 -- reading inside a bracket that opens where `free` brackets may
 abbrev pub read_nested : ℕ → ℕ → ℕ → Reader

@@ -1,4 +1,4 @@
-//! Expressions: tokens with what they say, the grammar of expressions, and their parser.
+//! Expressions, and the types that `sizeof` takes: tokens with what they say, the grammar, and its parser.
 //!
 //! A lexeme is a token with what its text says, so that the grammar speaks of no bytes. The grammar is a relation
 //! between lists of lexemes and the trees of `sc_ast`.
@@ -10,6 +10,7 @@ mod mark;
 mod operator;
 mod parser;
 mod reading;
+mod types;
 
 pub use fault::SyntaxFault;
 pub use lexeme::{
@@ -18,3 +19,4 @@ pub use lexeme::{
 pub use mark::{Keyword, Mark};
 pub use operator::{Extension, Prefix};
 pub use parser::{Built, one_expr, one_parse, parse_expr, parse_level, parse_unary};
+pub use types::{base_at, keyword_at, name_at, past_int, star_count, type_name_at};

@@ -5,7 +5,7 @@ ghost use Rattle.sc_parse_expr.specs.Prelude.{Agrees, IsParse, Spells, extended_
 ghost use Rattle.sc_parse_expr.specs.Prelude.{found, joined_with, lead_by, lead_of, leaf_at, leaf_of, loosest_level};
 ghost use Rattle.sc_parse_expr.specs.Prelude.{accessed, named_with, operand_with, paren_with, prefix_with, read};
 ghost use Rattle.sc_parse_expr.specs.Prelude.{read_expr};
-ghost use Rattle.sc_parse_expr.specs.Prelude.{read_nested, unary_level};
+ghost use Rattle.sc_parse_expr.specs.Prelude.{read_nested, size_within, unary_level};
 ghost use Rattle.sc_ast.specs.Prelude.{expr_height};
 ghost use Rattle.std.specs.Prelude.{◌≡◌, ℕ, ◌<◌, ◌≤◌, ◌+◌, ◌-◌, ◌^◌, List, IfOk, IsErrOf, Some};
 ghost use Rattle.std.specs.Option.{option_map};
@@ -16,10 +16,11 @@ ghost use Rattle.sc_parse_expr.specs.declared.lexeme.Lexeme.{Lexeme};
 
 use crate::fault::SyntaxFault;
 use crate::lexeme::{Lexeme, Symbol, expect, name_by, refused, refused_before};
-use crate::mark::Mark;
+use crate::mark::{Keyword, Mark};
 use crate::operator::{
     Extension, Prefix, extension_level, extension_of, prefix_of, prefixed, right_level_of,
 };
+use crate::types::type_in_parens;
 use sc_ast::{ExprTree, Ident};
 use sc_base::{BinaryOp, LOOSEST, MAX_BRACKETS, MAX_HEIGHT, UNARY};
 use sqlite_items::Boxed;
@@ -90,11 +91,12 @@ pub fn one_parse()
         IsParse level count lexemes e rest → IsParse level count lexemes f more → (e ≡ f) × (rest ≡ more) }
 {}
 
-/// What a mark begins an expression with.
+/// What a mark or a reserved word begins an expression with.
 #[derive(Clone, Copy)]
 enum Lead {
     Paren,
     Prefix(Prefix),
+    SizeOf,
 }
 
 fn lead_by(mark: Mark) -> Option<Lead>
@@ -114,6 +116,7 @@ fn lead_of(symbol: &Symbol) -> Option<Lead>
 {
     match symbol {
         Symbol::Mark(mark) => lead_by(*mark),
+        Symbol::Keyword(Keyword::Sizeof) => Some(Lead::SizeOf),
         _ => None,
     }
 }
@@ -181,6 +184,20 @@ fn parse_leaf(alloc: Global, lexemes: &[Lexeme]) -> Answer<'_>
     build(alloc, leaf, 1, rest)
 }
 
+// The size of a type, after `sizeof`.
+fn parse_size(alloc: Global, free: u32, lexemes: &[Lexeme]) -> Answer<'_>
+    ensures read { Agrees (λ x. found x.0.tree x.0.height x.1.now) result (size_within free lexemes.now) }
+    ensures low { IfOk result (λ x. x.0.height ≡ 1) }
+{
+    if free > 0 {
+        let mut rest = lexemes;
+        let of = type_in_parens(&mut rest)?;
+        build(alloc, ExprTree::SizeOf(of), 1, rest)
+    } else {
+        Err(refused(lexemes))
+    }
+}
+
 /// An expression of a level, at most `room` high, with at most `free` brackets open in it.
 #[cycle(parser)]
 #[tactic(auto, using(crate::proofs::Steps::reads, crate::proofs::Steps::loops))]
@@ -213,7 +230,7 @@ pub fn parse_level<'a>(
 fn parse_operand<'a>(alloc: Global, free: u32, below: u32, lexemes: &'a [Lexeme]) -> Answer<'a>
     requires { below + 1 < 2 ^ 32 }
     ensures read { Agrees (λ x. found x.0.tree x.0.height x.1.now) result
-        (operand_with (read_nested free) (read free below) below lexemes.now) }
+        (operand_with free (read_nested free) (read free below) below lexemes.now) }
     ensures low { IfOk result (λ x. x.0.height ≤ below + 1) }
 {
     let [first, rest @ ..] = lexemes else {
@@ -222,6 +239,7 @@ fn parse_operand<'a>(alloc: Global, free: u32, below: u32, lexemes: &'a [Lexeme]
     match lead_of(&first.symbol) {
         Some(Lead::Paren) => parse_paren(alloc, free, below, rest),
         Some(Lead::Prefix(prefix)) => parse_prefix(alloc, free, below, prefix, rest),
+        Some(Lead::SizeOf) => parse_size(alloc, free, rest),
         None => parse_leaf(alloc, lexemes),
     }
 }

@@ -103,6 +103,17 @@ fn keyword_if(ending: &[u8], rest: &[u8], keyword: Keyword) -> Option<Keyword>
 }
 
 #[tactic(auto, unfolding(crate::specs::Lexemes::keyword_of))]
+fn keyword_after_f(rest: &[u8]) -> Option<Keyword>
+    ensures { result ≡ keyword_of (102 ∷ rest.now) }
+{
+    if b"or".as_slice() == rest {
+        Some(Keyword::For)
+    } else {
+        keyword_if(b"ree", rest, Keyword::Free)
+    }
+}
+
+#[tactic(auto, unfolding(crate::specs::Lexemes::keyword_of))]
 fn keyword_after_i(rest: &[u8]) -> Option<Keyword>
     ensures { result ≡ keyword_of (105 ∷ rest.now) }
 {
@@ -119,6 +130,8 @@ fn keyword_after_s(rest: &[u8]) -> Option<Keyword>
 {
     if b"igned".as_slice() == rest {
         Some(Keyword::Signed)
+    } else if b"izeof".as_slice() == rest {
+        Some(Keyword::Sizeof)
     } else {
         keyword_if(b"truct", rest, Keyword::Struct)
     }
@@ -135,8 +148,9 @@ fn keyword_of(text: &[u8]) -> Option<Keyword>
         b'b' => keyword_if(b"reak", rest, Keyword::Break),
         b'c' => keyword_if(b"ontinue", rest, Keyword::Continue),
         b'e' => keyword_if(b"lse", rest, Keyword::Else),
-        b'f' => keyword_if(b"or", rest, Keyword::For),
+        b'f' => keyword_after_f(rest),
         b'i' => keyword_after_i(rest),
+        b'm' => keyword_if(b"alloc", rest, Keyword::Malloc),
         b'r' => keyword_if(b"eturn", rest, Keyword::Return),
         b's' => keyword_after_s(rest),
         b'u' => keyword_if(b"nsigned", rest, Keyword::Unsigned),

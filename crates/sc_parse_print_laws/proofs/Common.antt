@@ -39,6 +39,7 @@ pub use Rattle.sc_ast.specs.Prelude.{declared_words, decls_height, deeper, else_
 pub use Rattle.sc_ast.specs.Prelude.{expr_step, expr_words, first_words, fits, for_words, function_words, global_words}
 pub use Rattle.sc_ast.specs.Prelude.{head_of, head_words, heading_words, if_words, in_parens, indent, init_words}
 pub use Rattle.sc_ast.specs.Prelude.{is_chain, is_doubled, is_ident, kind_height, kind_layout, layouts, length_number}
+pub use Rattle.sc_ast.specs.Prelude.{malloc_argument, malloc_words, sizeof_words, type_words}
 pub use Rattle.sc_ast.specs.Prelude.{length_words, line_of, lineless_decl, lineless_export, lineless_function_head}
 pub use Rattle.sc_ast.specs.Prelude.{lineless_import, lineless_kind, lineless_local, lineless_option, lineless_stmt}
 pub use Rattle.sc_ast.specs.Prelude.{lineless_stmts, lines_at, literal_text, local_height, local_line, locals_height}
@@ -66,7 +67,7 @@ pub use Rattle.sc_ast.specs.declared.types.BaseTree.{BaseTree}
 pub use Rattle.sc_ast.specs.declared.types.TypeName.{TypeName}
 pub use Rattle.sc_ast.specs.declared.types.TypeTree.{TypeTree}
 pub use Rattle.sc_parse_expr.specs.Prelude.{IsMark, Spells, arrow, binary_of, index, joined, lexeme_of, literal, looser}
-pub use Rattle.sc_parse_expr.specs.Prelude.{member, or_unused, parenthesised, prefix_of, prefixed, symbol_of, variable}
+pub use Rattle.sc_parse_expr.specs.Prelude.{member, or_unused, parenthesised, prefix_of, prefixed, size_of, symbol_of, variable}
 pub use Rattle.sc_parse_expr.specs.Prelude.{«prefix»}
 unfoldable pub use Rattle.sc_parse_expr.specs.Prelude.{keyword_of, mark_of, says}
 pub use Rattle.sc_parse_expr.specs.declared.mark.Keyword.{Keyword}
@@ -84,7 +85,8 @@ pub use Rattle.sc_parse_print_laws.specs.Prelude.{SectionSpells, StmtsReadAs, St
 pub use Rattle.sc_parse_print_laws.specs.Prelude.{are_kept, decls_text, dense_decl, dense_text, dense_words, expr_text}
 pub use Rattle.sc_parse_print_laws.specs.Prelude.{is_kept, is_kept_decl, is_kept_stmt, kept_base, kept_call, kept_const}
 pub use Rattle.sc_parse_print_laws.specs.Prelude.{kept_export, kept_function, kept_global, kept_head, kept_import}
-pub use Rattle.sc_parse_print_laws.specs.Prelude.{kept_init, kept_kind, kept_length, kept_local, kept_member, kept_name}
+pub use Rattle.sc_parse_print_laws.specs.Prelude.{kept_init, kept_kind, kept_length, kept_local, kept_malloc, kept_member}
+pub use Rattle.sc_parse_print_laws.specs.Prelude.{kept_name}
 pub use Rattle.sc_parse_print_laws.specs.Prelude.{kept_option, kept_param, kept_place, kept_result, kept_section}
 pub use Rattle.sc_parse_print_laws.specs.Prelude.{kept_simple, kept_step, kept_struct, kept_type, kept_value, some_kept}
 pub use Rattle.sc_parse_print_laws.specs.Prelude.{stmts_text, symbols}

@@ -11,4 +11,5 @@ pub mod Spelling
 pub mod Stmts
 pub mod Tables
 pub mod TreeSpacing
+pub mod TypeReads
 pub mod Whole

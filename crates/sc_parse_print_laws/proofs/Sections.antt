@@ -1,26 +1,24 @@
 -- The words of whole declarations spell them, lines aside.
-use Rattle.sc_parse_print_laws.proofs.Common.{BaseTree, Bool, Decl, Declares, DeclsSpell, ExprTree, FunctionTree}
+use Rattle.sc_parse_print_laws.proofs.Common.{[], BaseTree, Bool, Decl, Declares, DeclsSpell, ExprTree, FunctionTree}
 use Rattle.sc_parse_print_laws.proofs.Common.{GlobalTree, Grouped, HeadTree, InitTree, IsGlobal, IsLocal, IsMember}
 use Rattle.sc_parse_print_laws.proofs.Common.{IsTrue, Lexeme, List, LocalTree, MemberTree, None, Number, Option}
-use Rattle.sc_parse_print_laws.proofs.Common.{ParamTree, Piece, Some, SpellsBase, SpellsConst, SpellsDecl}
-use Rattle.sc_parse_print_laws.proofs.Common.{SpellsDeclarator, SpellsHead, SpellsInit, SpellsParam, SpellsParams}
-use Rattle.sc_parse_print_laws.proofs.Common.{SpellsResult, SpellsStars, SpellsTypeName, SpellsValue, TypeName}
-use Rattle.sc_parse_print_laws.proofs.Common.{TypeTree, [], and_from, and_parts, ap, append-nil, append_assoc, arith}
-use Rattle.sc_parse_print_laws.proofs.Common.{array_length, base_words, blank, blank_if, cases_lt, codes, comma}
-use Rattle.sc_parse_print_laws.proofs.Common.{const_words, decl_words, declared_words, ended, expr_words, false}
-use Rattle.sc_parse_print_laws.proofs.Common.{false≢true, first_line, fits, flat_map, function_words, global_words}
-use Rattle.sc_parse_print_laws.proofs.Common.{head_of, head_words, init_words, is_ident, is_kept_decl, join_by}
-use Rattle.sc_parse_print_laws.proofs.Common.{kept_base, kept_const, kept_function, kept_global, kept_head, kept_init}
-use Rattle.sc_parse_print_laws.proofs.Common.{kept_length, kept_local, kept_member, kept_name, kept_param, kept_result}
-use Rattle.sc_parse_print_laws.proofs.Common.{kept_type, kept_value, le-leb, leb-true, length_number, length_words}
-use Rattle.sc_parse_print_laws.proofs.Common.{line_of, lineless_decl, lineless_function_head, lineless_local}
-use Rattle.sc_parse_print_laws.proofs.Common.{lineless_stmts, list_all, literal_text, local_line, lt-ltb, map}
-use Rattle.sc_parse_print_laws.proofs.Common.{member_line, minus_words, name_words, nat_le, nat_lt, newline, one}
-use Rattle.sc_parse_print_laws.proofs.Common.{or_right, param_words, params_words, refl, result_words, some_kept}
-use Rattle.sc_parse_print_laws.proofs.Common.{star_words, struct_words, subst, suc, symbols, true, type_name}
-use Rattle.sc_parse_print_laws.proofs.Common.{value_words, word, zero, ℕ, ⊎_elim, ◌&&◌, ◌++◌, ◌+◌, ◌||◌, ◌∙◌, ◌∷◌, ◌≡◌}
-use Rattle.sc_parse_print_laws.proofs.Common.{◌≤◌}
-use Rattle.sc_base.specs.declared.op.BinaryOp.TheVariants as binary
+use Rattle.sc_parse_print_laws.proofs.Common.{ParamTree, Piece, Some, SpellsConst, SpellsDecl, SpellsDeclarator}
+use Rattle.sc_parse_print_laws.proofs.Common.{SpellsHead, SpellsInit, SpellsParam, SpellsParams, SpellsResult}
+use Rattle.sc_parse_print_laws.proofs.Common.{SpellsTypeName, SpellsValue, TypeName, TypeTree, and_from, and_parts, ap}
+use Rattle.sc_parse_print_laws.proofs.Common.{append-nil, append_assoc, arith, array_length, base_words, blank}
+use Rattle.sc_parse_print_laws.proofs.Common.{blank_if, cases_lt, codes, comma, const_words, decl_words, declared_words}
+use Rattle.sc_parse_print_laws.proofs.Common.{ended, expr_words, false, false≢true, first_line, fits, flat_map}
+use Rattle.sc_parse_print_laws.proofs.Common.{function_words, global_words, head_of, head_words, init_words, is_ident}
+use Rattle.sc_parse_print_laws.proofs.Common.{is_kept_decl, join_by, kept_base, kept_const, kept_function, kept_global}
+use Rattle.sc_parse_print_laws.proofs.Common.{kept_head, kept_init, kept_length, kept_local, kept_member, kept_name}
+use Rattle.sc_parse_print_laws.proofs.Common.{kept_param, kept_result, kept_type, kept_value, le-leb, leb-true}
+use Rattle.sc_parse_print_laws.proofs.Common.{length_number, length_words, line_of, lineless_decl}
+use Rattle.sc_parse_print_laws.proofs.Common.{lineless_function_head, lineless_local, lineless_stmts, list_all}
+use Rattle.sc_parse_print_laws.proofs.Common.{literal_text, local_line, lt-ltb, map, member_line, minus_words}
+use Rattle.sc_parse_print_laws.proofs.Common.{name_words, nat_le, nat_lt, newline, one, or_right, param_words}
+use Rattle.sc_parse_print_laws.proofs.Common.{params_words, refl, result_words, some_kept, star_words, struct_words}
+use Rattle.sc_parse_print_laws.proofs.Common.{subst, symbols, true, type_name, value_words, word, ℕ, ⊎_elim, ◌&&◌, ◌++◌}
+use Rattle.sc_parse_print_laws.proofs.Common.{◌+◌, ◌||◌, ◌∙◌, ◌∷◌, ◌≡◌, ◌≤◌}
 use Rattle.sc_base.specs.declared.op.UnaryOp.TheVariants as unary
 use Rattle.sc_ast.specs.declared.types.BaseTree.TheVariants as base
 use Rattle.sc_ast.specs.declared.section.InitTree.TheVariants as init
@@ -33,24 +31,10 @@ use Rattle.sc_parse_print_laws.proofs.Reading.{all_alike, line_symbols, joined_s
 use Rattle.sc_parse_expr.specs.declared.mark.Keyword.TheVariants as keyword
 use Rattle.sc_ast.specs.declared.section.Decl.TheVariants as decl
 use Rattle.sc_parse.specs.Lists as lists
+use Rattle.sc_parse_print_laws.proofs.TypeReads.{base_reads, stars_read}
 use Rattle.sc_parse_print_laws.proofs.Stmts.{each_kept, expr_reads, Lines, lines_read, stmt_holds}
 use Rattle.sc_parse_print_laws.proofs.Tables.{lone_says, open_paren, close_paren, open_square, close_square, semicolon}
 use Rattle.sc_parse_print_laws.proofs.Tables.{open_curly, close_curly}
-
-pub base_reads : (b : BaseTree) → IsTrue (kept_base b) → Reading (base_words b) (λ ts. SpellsBase ts b)
-base_reads base.Int k = reads (written _ ∷ []) _ (λ t is. types.int t (is ∙ tables.keyword_says _))
-base_reads base.Unsigned k = reads (written _ ∷ written _ ∷ []) _
-    (λ t is u so. types.unsigned_int t u (is ∙ tables.keyword_says _) (so ∙ tables.keyword_says _))
-base_reads (base.Struct tag) k = reads (written _ ∷ written tag ∷ []) _
-    (λ t is u named. types.struct t u tag (is ∙ tables.keyword_says _) (named ∙ name_says tag k))
-
-pub stars_read : (stars : ℕ) → Reading (star_words stars) (λ ts. SpellsStars ts stars)
-stars_read zero = reads [] _ types.none
-stars_read (suc n) =
-    let plus : n + 1 ≡ suc n = omega arith in
-    reads (written _ ∷ part (star_words n) ∷ []) _
-    (λ t is ts said. subst (λ m. SpellsStars (t ∷ ts) m) plus
-    (types.star t (is ∙ tables.binary_says binary.Mul) (stars_read n ts said)))
 
 -- the length of an array is a number of its type
 pub length_fits : (elements : ℕ) → elements ≤ 4294967295 → IsTrue (fits (length_number elements))

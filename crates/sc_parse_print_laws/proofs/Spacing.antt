@@ -1,22 +1,24 @@
 -- The words of an expression stand apart: which text may follow a word, and that what is printed does.
-use Rattle.sc_parse_print_laws.proofs.Common.{BinaryOp, Bool, ExprTree, ExprTree-F, IsToken, IsTrue, Keyword, List}
-use Rattle.sc_parse_print_laws.proofs.Common.{Mark, Piece, Printed, Some, TokenKind, UnaryOp, Under, [], and_from}
-use Rattle.sc_parse_print_laws.proofs.Common.{and_parts, ap, append-nil, append_assoc, arith, begins_block_comment}
-use Rattle.sc_parse_print_laws.proofs.Common.{begins_line_comment, binary_text, binary_words, blank, bytes_eq, codes}
-use Rattle.sc_parse_print_laws.proofs.Common.{drop, eq-eqb, expr_at, expr_induction, expr_step, false, false≢true}
-use Rattle.sc_parse_print_laws.proofs.Common.{flat_map-append, if◌then◌else◌, in_parens, indent, is_doubled, is_ident}
-use Rattle.sc_parse_print_laws.proofs.Common.{is_kept, is_mark, is_name_byte, is_reserved, kept_step, le-leb, length}
-use Rattle.sc_parse_print_laws.proofs.Common.{length-append, list_all, lt-ltb, map-ExprTree, mark_one, mark_two, marks}
-use Rattle.sc_parse_print_laws.proofs.Common.{nat_le, nat_lt, ne_eqb, newline, prefix_len, prefix_words, refl}
-use Rattle.sc_parse_print_laws.proofs.Common.{slice_index, subst, sym, take, take-append_seam, text_of, true}
-use Rattle.sc_parse_print_laws.proofs.Common.{unary_text, word, word_found, word_kind, word_run, words_at, ℕ, ◌&&◌}
-use Rattle.sc_parse_print_laws.proofs.Common.{◌++◌, ◌-◌, ◌<◌, ◌==◌, ◌||◌, ◌∙◌, ◌∷◌, ◌≡◌, ◌≤◌}
+use Rattle.sc_parse_print_laws.proofs.Common.{[], BaseTree, TypeName, base_words, blank_if, kept_base, sizeof_words}
+use Rattle.sc_parse_print_laws.proofs.Common.{star_words, suc, type_words, zero, BinaryOp, Bool, ExprTree, ExprTree-F}
+use Rattle.sc_parse_print_laws.proofs.Common.{IsToken, IsTrue, Keyword, List, Mark, Piece, Printed, Some, TokenKind}
+use Rattle.sc_parse_print_laws.proofs.Common.{UnaryOp, Under, and_from, and_parts, ap, append-nil, append_assoc, arith}
+use Rattle.sc_parse_print_laws.proofs.Common.{begins_block_comment, begins_line_comment, binary_text, binary_words}
+use Rattle.sc_parse_print_laws.proofs.Common.{blank, bytes_eq, codes, drop, eq-eqb, expr_at, expr_induction, expr_step}
+use Rattle.sc_parse_print_laws.proofs.Common.{false, false≢true, flat_map-append, if◌then◌else◌, in_parens, indent}
+use Rattle.sc_parse_print_laws.proofs.Common.{is_doubled, is_ident, is_kept, is_mark, is_name_byte, is_reserved}
+use Rattle.sc_parse_print_laws.proofs.Common.{kept_step, le-leb, length, length-append, list_all, lt-ltb, map-ExprTree}
+use Rattle.sc_parse_print_laws.proofs.Common.{mark_one, mark_two, marks, nat_le, nat_lt, ne_eqb, newline, prefix_len}
+use Rattle.sc_parse_print_laws.proofs.Common.{prefix_words, refl, slice_index, subst, sym, take, take-append_seam}
+use Rattle.sc_parse_print_laws.proofs.Common.{text_of, true, unary_text, word, word_found, word_kind, word_run}
+use Rattle.sc_parse_print_laws.proofs.Common.{words_at, ℕ, ◌&&◌, ◌++◌, ◌-◌, ◌<◌, ◌==◌, ◌||◌, ◌∙◌, ◌∷◌, ◌≡◌, ◌≤◌}
 use Rattle.sc_lex.specs.declared.token.TokenKind.TheVariants as kind
 use Rattle.sc_base.specs.declared.op.BinaryOp.TheVariants as binary
 use Rattle.sc_parse_expr.specs.declared.mark.Keyword.TheVariants as keyword
 use Rattle.sc_base.specs.Levels as levels
 use Rattle.sc_base.specs.declared.op.UnaryOp.TheVariants as unary
 use Rattle.sc_ast.specs.declared.expr.ExprTree.TheOpen as term
+use Rattle.sc_ast.specs.declared.types.BaseTree.TheVariants as base
 use Rattle.std.proofs.Math.Bool.{and-false}
 use Rattle.sc_parse_print_laws.proofs.Literals.{no_table, name_kind, name_some, literal_kind, literal_some}
 use Rattle.sc_parse_print_laws.proofs.Tables.{Lone, arrow, keyword_text, plus_plus, at_least_2, open_paren, close_paren}
@@ -354,6 +356,51 @@ named_tidy mark name at calm_at ident rest calm = (
   next (at _) (next (plain_word name rest kind.Ident (name_some name ident) (name_kind name ident) calm) none),
 )
 
+-- names and types
+pub name_tidy : (name : List ℕ) → IsTrue (is_ident name) → (rest : List ℕ) → Calm rest → IsWord name rest
+name_tidy name ident rest calm = plain_word name rest kind.Ident (name_some name ident) (name_kind name ident) calm
+
+pub base_tidy : (b : BaseTree) → IsTrue (kept_base b) → Sound (base_words b)
+base_tidy base.Int k rest calm = next (keyword_word keyword.Int _ calm) none
+base_tidy base.Unsigned k rest calm = next (keyword_word keyword.Unsigned _ refl)
+    (gap (next (keyword_word keyword.Int _ calm) none))
+base_tidy (base.Struct tag) k rest calm = next (keyword_word keyword.Struct _ refl)
+    (gap (next (name_tidy tag k _ calm) none))
+
+stars_quiet : (stars : ℕ) (rest : List ℕ) → Quiet rest → Quiet (text_of (star_words stars) ++ rest)
+stars_quiet zero rest q = q
+stars_quiet (suc n) rest q = refl
+
+pub stars_tidy : (stars : ℕ) (rest : List ℕ) → Quiet rest → Tidy (star_words stars) rest
+stars_tidy zero rest q = none
+stars_tidy (suc n) rest q = next (prefix_word asterisk _ (quiet (stars_quiet n rest q))) (stars_tidy n rest q)
+
+pub gap_if : (wanted : Bool) (pieces : List Piece) (rest : List ℕ) → Tidy pieces rest →
+    Tidy (blank_if wanted ++ pieces) rest
+gap_if true pieces rest t = gap t
+gap_if false pieces rest t = t
+
+pub calm_if : (wanted : Bool) (pieces : List Piece) (rest : List ℕ) → Calm (text_of pieces ++ rest) →
+    Calm (text_of (blank_if wanted ++ pieces) ++ rest)
+calm_if true pieces rest calm = refl
+calm_if false pieces rest calm = calm
+
+type_tidy : (b : BaseTree) (stars : ℕ) → IsTrue (kept_base b) → (rest : List ℕ) → Calm rest → Quiet rest →
+    Tidy (base_words b ++ (blank_if (nat_lt 0 stars) ++ star_words stars)) rest
+type_tidy b zero k rest calm q = tidy_append (base_words b) [] rest (base_tidy b k rest calm) none
+type_tidy b (suc n) k rest calm q =
+    let wanted = nat_lt 0 (suc n) in
+    let pieces = star_words (suc n) in
+    tidy_append (base_words b) (blank_if wanted ++ pieces) rest (base_tidy b k _ (calm_if wanted pieces rest refl))
+    (gap_if wanted pieces rest (stars_tidy (suc n) rest q))
+
+size_tidy : (of : TypeName) → IsTrue (kept_base of.base) → Fits (λ before level. sizeof_words of)
+size_tidy of k before level rest calm = (
+  next (keyword_word keyword.Sizeof _ refl) (lone open_paren (tidy_append (type_words of) (word (codes ")") ∷ []) rest
+      (type_tidy of.base of.stars k _ refl refl) (lone close_paren none))),
+  from_quiet before level _ refl,
+)
+
 -- each form of expression
 form : (t : ExprTree-F ExprTree) → Under Holds t → IsTrue (kept_step (map-ExprTree _ _ is_kept t)) →
     Fits (expr_step (map-ExprTree _ _ words_at t))
@@ -378,6 +425,7 @@ form (term.Arrow base name) u k =
     after_tidy (words_at base) _ (u parts.0) (named_tidy (codes "->") name (lone_word arrow) (λ r. refl) parts.1)
 form (term.Deref of) u k = prefix_tidy asterisk (words_at of) (u k)
 form (term.Address of) u k = prefix_tidy (signed ampersand) (words_at of) (u k)
+form (term.SizeOf of) u k = size_tidy of k
 
 pub tidy_at : (e : ExprTree) → Holds e
 tidy_at = expr_induction Holds (λ t u kept before level rest calm.

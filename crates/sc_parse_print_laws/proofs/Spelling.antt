@@ -1,13 +1,13 @@
 -- The words of an expression spell it.
-use Rattle.sc_parse_print_laws.proofs.Common.{BinaryOp, Bool, ExprTree, ExprTree-F, IsTrue, Lexeme, List, Mark, Piece}
-use Rattle.sc_parse_print_laws.proofs.Common.{Printed, Some, Spells, Under, WordsSpell, [], and_parts, ap, apart}
-use Rattle.sc_parse_print_laws.proofs.Common.{append-nil, arith, arrow, binary_text, binary_words, blank, bytes_eq}
-use Rattle.sc_parse_print_laws.proofs.Common.{codes, expr_at, expr_induction, expr_step, false, if◌then◌else◌}
-use Rattle.sc_parse_print_laws.proofs.Common.{in_parens, index, is_doubled, is_ident, is_kept, joined, kept_step}
-use Rattle.sc_parse_print_laws.proofs.Common.{literal, ltb-false, map-ExprTree, member, nat_lt, parenthesised}
-use Rattle.sc_parse_print_laws.proofs.Common.{prefix_of, prefix_words, prefixed, refl, roll-ExprTree, subst, sym}
-use Rattle.sc_parse_print_laws.proofs.Common.{symbols, true, variable, word, word_symbol, words_at, «prefix», ℕ, ◌&&◌}
-use Rattle.sc_parse_print_laws.proofs.Common.{◌++◌, ◌-◌, ◌∙◌, ◌∷◌, ◌≡◌, ◌≤◌}
+use Rattle.sc_parse_print_laws.proofs.Common.{[], TypeName, kept_base, size_of, sizeof_words, type_words, BinaryOp}
+use Rattle.sc_parse_print_laws.proofs.Common.{Bool, ExprTree, ExprTree-F, IsTrue, Lexeme, List, Mark, Piece, Printed}
+use Rattle.sc_parse_print_laws.proofs.Common.{Some, Spells, Under, WordsSpell, and_parts, ap, apart, append-nil, arith}
+use Rattle.sc_parse_print_laws.proofs.Common.{arrow, binary_text, binary_words, blank, bytes_eq, codes, expr_at}
+use Rattle.sc_parse_print_laws.proofs.Common.{expr_induction, expr_step, false, if◌then◌else◌, in_parens, index}
+use Rattle.sc_parse_print_laws.proofs.Common.{is_doubled, is_ident, is_kept, joined, kept_step, literal, ltb-false}
+use Rattle.sc_parse_print_laws.proofs.Common.{map-ExprTree, member, nat_lt, parenthesised, prefix_of, prefix_words}
+use Rattle.sc_parse_print_laws.proofs.Common.{prefixed, refl, roll-ExprTree, subst, sym, symbols, true, variable, word}
+use Rattle.sc_parse_print_laws.proofs.Common.{word_symbol, words_at, «prefix», ℕ, ◌&&◌, ◌++◌, ◌-◌, ◌∙◌, ◌∷◌, ◌≡◌, ◌≤◌}
 use Rattle.sc_base.specs.declared.op.BinaryOp.TheVariants as binary
 use Rattle.sc_base.specs.Levels as levels
 use Rattle.sc_ast.specs.declared.expr.ExprTree.TheOpen as term
@@ -15,7 +15,9 @@ use Rattle.sc_ast.specs.declared.expr.ExprTree.TheVariants as expr
 use Rattle.sc_parse_expr.specs.declared.mark.Mark.TheVariants as mark
 use Rattle.sc_parse_expr.specs.declared.operator.Prefix.{Prefix}
 use Rattle.sc_parse_expr.specs.declared.operator.Prefix.TheVariants as prefix
+use Rattle.sc_parse_expr.specs.declared.mark.Keyword.TheVariants as keyword
 use Rattle.sc_parse_print_laws.proofs.Tables as tables
+use Rattle.sc_parse_print_laws.proofs.TypeReads.{type_reads}
 use Rattle.sc_parse_print_laws.proofs.Reading.{Say, up_to, joined_symbols, fixed, part, written, reads}
 use Rattle.sc_parse_print_laws.proofs.Literals.{name_says, literal_says}
 use Rattle.sc_parse_print_laws.proofs.Tables.{lone_says, open_paren, close_paren, open_square, close_square, dot}
@@ -88,6 +90,13 @@ named_at : (kind name : List ℕ) (base : List Piece) (e of : ExprTree) → AtLe
 named_at kind name base e of at_base spells level = reads (part base ∷ written kind ∷ written name ∷ []) _
     (λ ts said t is u named. up_to 0 level _ e (omega arith) (spells ts t u is named (at_base ts said)))
 
+size_at : (of : TypeName) → IsTrue (kept_base of.base) → (level : ℕ) → AtLevel level (sizeof_words of) (expr.SizeOf of)
+size_at of k level =
+    reads (written (codes "sizeof") ∷ written (codes "(") ∷ part (type_words of) ∷ written (codes ")") ∷ []) _
+    (λ t is u opens ts said v closes. up_to 0 level _ _ (omega arith) (size_of t u v (is ∙
+    tables.keyword_says keyword.Sizeof) (opens ∙ lone_says open_paren) (closes ∙ lone_says close_paren)
+    (type_reads of k ts said)))
+
 abbrev pub Holds : ExprTree → Type 0
 Holds e = IsTrue (is_kept e) → (before : List ℕ) (level : ℕ) → AtLevel level (words_at e before level) e
 
@@ -119,6 +128,7 @@ form (term.Deref of) u k before level ts h = prefixed_at _ mark.Star prefix.Dere
     refl of (words_at of) (u k) before level ts h
 form (term.Address of) u k before level ts h = prefixed_at _ mark.And prefix.Address (tables.binary_says binary.BitAnd)
     refl of (words_at of) (u k) before level ts h
+form (term.SizeOf of) u k before level ts h = size_at of k level ts h
 
 pub spelled_at : (e : ExprTree) → Holds e
 spelled_at = expr_induction Holds (λ t u kept before level ts h. form t u (subst (λ b. IsTrue b) (expr_at _ t) kept)

@@ -1,10 +1,11 @@
 -- Statements without their lines, what each of those that are kept is, and that their words spell them.
-use Rattle.sc_parse_print_laws.proofs.Common.{Bool, CallTree, Each, ExprTree, Inside, IsKeyword, IsMark, IsTrue}
-use Rattle.sc_parse_print_laws.proofs.Common.{Keyword, Layout, Lexeme, List, None, Option, Piece, SimpleKind}
+use Rattle.sc_parse_print_laws.proofs.Common.{[], TypeName, kept_base, kept_malloc, kept_value, malloc_argument}
+use Rattle.sc_parse_print_laws.proofs.Common.{malloc_words, Bool, CallTree, Each, ExprTree, Inside, IsKeyword, IsMark}
+use Rattle.sc_parse_print_laws.proofs.Common.{IsTrue, Keyword, Layout, Lexeme, List, None, Option, Piece, SimpleKind}
 use Rattle.sc_parse_print_laws.proofs.Common.{SimpleTree, Some, Spells, SpellsArgs, SpellsBlock, SpellsCall}
 use Rattle.sc_parse_print_laws.proofs.Common.{SpellsCondition, SpellsIf, SpellsKind, SpellsPart, SpellsPlace}
 use Rattle.sc_parse_print_laws.proofs.Common.{SpellsStmtKind, SpellsStmts, StmtKind, StmtKind-F, StmtTree, StmtsSpell}
-use Rattle.sc_parse_print_laws.proofs.Common.{[], after_else, all_kept, and_parts, ap, append-nil, append_assoc, ap₂}
+use Rattle.sc_parse_print_laws.proofs.Common.{after_else, all_kept, and_parts, ap, append-nil, append_assoc, ap₂}
 use Rattle.sc_parse_print_laws.proofs.Common.{are_kept, arith, bare_stmt, blank, block_words, call_words, chain_words}
 use Rattle.sc_parse_print_laws.proofs.Common.{codes, comma, condition_words, deeper, else_words, ended, eqb-true}
 use Rattle.sc_parse_print_laws.proofs.Common.{equals, everywhere as everywhere_holds, expr_words, false, false≢true}
@@ -19,6 +20,7 @@ use Rattle.sc_parse_print_laws.proofs.Common.{subst, sym, symbols, true, word, w
 use Rattle.sc_parse_print_laws.proofs.Common.{◌∷◌, ◌≡◌}
 use Rattle.sc_ast.specs.Prelude.{stmt_kind_of}
 use Rattle.sc_ast.specs.StmtWords as printing
+use Rattle.sc_ast.specs.declared.expr.ExprTree as exprs
 use Rattle.sc_ast.specs.declared.stmt.StmtTree as trees
 use Rattle.sc_ast.specs.declared.stmt.StmtKind as kinds
 use Rattle.sc_ast.specs.declared.stmt.StmtKind.TheVariants as stmt
@@ -108,6 +110,37 @@ assigned place value P k take =
     (λ ts said t is us following. take ts t us (spelled_at place parts.1 [] 1 ts said, parts.0) (is ∙ tables.equal)
     following)
 
+-- an argument of `malloc` keeps what its count and its type do
+product_kept : (count : ExprTree) (of : TypeName) →
+    is_kept (malloc_argument (Some count) of) ≡ (is_kept count && kept_base of.base)
+product_kept count of = search (rules, exprs.the_lemmas)
+
+size_kept : (of : TypeName) → is_kept (malloc_argument None of) ≡ kept_base of.base
+size_kept of = search (rules, exprs.the_lemmas)
+
+pub argument_kept : (count : Option ExprTree) (of : TypeName) → IsTrue (kept_value count && kept_base of.base) →
+    IsTrue (is_kept (malloc_argument count of))
+argument_kept None of k = size_kept of ∙ k
+argument_kept (Some count) of k = product_kept count of ∙ k
+
+-- a reserved word, and an expression in parentheses
+given_reads : (w : Keyword) (e : ExprTree) (P : List Lexeme → Type 0) → IsTrue (is_kept e) →
+    ((t : Lexeme) (ts : List Lexeme) → IsKeyword w t → SpellsCondition ts e → P (t ∷ ts)) →
+    Reading (word (tables.keyword_text w) ∷ word (codes "(") ∷ (expr_words e ++ word (codes ")") ∷ [])) P
+given_reads w e P k take =
+    reads (written (tables.keyword_text w) ∷ written (codes "(") ∷ part (expr_words e) ∷ written (codes ")") ∷ []) P
+    (λ t is u opens ts said v closes. take t (u ∷ (ts ++ v ∷ [])) (is ∙ tables.keyword_says w)
+    (spell.condition u v (opens ∙ lone_says open_paren) (closes ∙ lone_says close_paren) (expr_reads e k ts said)))
+
+malloc_reads : (place : ExprTree) (count : Option ExprTree) (of : TypeName) → IsTrue (kept_malloc place count of) →
+    Reading (malloc_words place count of) (λ ts. SpellsKind ts (simple.Malloc place count of))
+malloc_reads place count of k =
+    let parts = and_parts _ _ k in
+    assigned place _ (λ ts. SpellsKind ts (simple.Malloc place count of)) parts.0
+    (λ us t vs at is said. given_reads keyword.Malloc (malloc_argument count of)
+    (λ ts. SpellsKind (us ++ t ∷ ts) (simple.Malloc place count of)) (argument_kept count of parts.1)
+    (λ u ws so d. spell.allocate t u is so at d) vs said)
+
 pub simple_reads : (k : SimpleKind) → IsTrue (kept_simple k) → Reading (simple_words k) (λ ts. SpellsKind ts k)
 simple_reads (simple.Assign place value) k ts h =
     let parts = and_parts _ _ k in
@@ -118,6 +151,9 @@ simple_reads (simple.AssignCall place call) k ts h =
     assigned place _ (λ ts. SpellsKind ts (simple.AssignCall place call)) parts.0
     (λ us t vs at is said. spell.assign_call t is at (call_reads call parts.1 vs said)) ts h
 simple_reads (simple.Call call) k ts h = spell.call (call_reads call k ts h)
+simple_reads (simple.Malloc place count of) k ts h = malloc_reads place count of k ts h
+simple_reads (simple.Free pointer) k ts h = given_reads keyword.Free pointer
+    (λ ts. SpellsKind ts (simple.Free pointer)) k (λ t us is d. spell.release t is d) ts h
 
 -- a condition in its parentheses, and a blank
 abbrev pub in_brackets : ExprTree → List Piece
@@ -355,6 +391,8 @@ form layer.Empty inside k depth ts h = reads (written _ ∷ []) (λ us. Spelled 
 form (layer.Assign place value) inside k depth ts h = simply _ (plain_reads (simple.Assign place value) k ts h)
 form (layer.AssignCall place call) inside k depth ts h = simply _ (plain_reads (simple.AssignCall place call) k ts h)
 form (layer.Call call) inside k depth ts h = simply _ (plain_reads (simple.Call call) k ts h)
+form (layer.Malloc place count of) inside k depth ts h = simply _ (plain_reads (simple.Malloc place count of) k ts h)
+form (layer.Free pointer) inside k depth ts h = simply _ (plain_reads (simple.Free pointer) k ts h)
 form (layer.If cond then_part else_part) inside k depth ts h =
     let parts = and_parts _ _ k in
     let both = and_parts (all_kept (map is_kept_stmt then_part)) (all_kept (map is_kept_stmt else_part)) parts.1 in

@@ -1,9 +1,9 @@
 -- What each fixed word says.
 use Rattle.sc_parse_print_laws.proofs.Common.{BinaryOp, Keyword, List, Mark, Some, UnaryOp, arith, binary_of}
 use Rattle.sc_parse_print_laws.proofs.Common.{binary_text, codes, is_integer_constant, is_mark, is_name}
-use Rattle.sc_parse_print_laws.proofs.Common.{is_number_within, is_reserved}
-use Rattle.sc_parse_print_laws.proofs.Common.{keyword_of, token_kind, level_of, mark_of, prefix_of, refl, says, suc}
-use Rattle.sc_parse_print_laws.proofs.Common.{unary_text, word_kind, word_symbol, ℕ, ◌-◌, ◌≡◌, ◌≤◌}
+use Rattle.sc_parse_print_laws.proofs.Common.{is_number_within, is_reserved, keyword_of, token_kind, level_of, mark_of}
+use Rattle.sc_parse_print_laws.proofs.Common.{prefix_of, refl, says, suc, unary_text, word_kind, word_symbol, ℕ, ◌-◌}
+use Rattle.sc_parse_print_laws.proofs.Common.{◌≡◌, ◌≤◌}
 use Rattle.sc_base.specs.Levels as levels
 use Rattle.sc_base.specs.declared.op.UnaryOp.TheVariants as unary
 use Rattle.sc_base.specs.declared.op.BinaryOp.TheVariants as binary
@@ -106,10 +106,13 @@ keyword_text keyword.Break = codes "break"
 keyword_text keyword.Continue = codes "continue"
 keyword_text keyword.Else = codes "else"
 keyword_text keyword.For = codes "for"
+keyword_text keyword.Free = codes "free"
 keyword_text keyword.If = codes "if"
 keyword_text keyword.Int = codes "int"
+keyword_text keyword.Malloc = codes "malloc"
 keyword_text keyword.Return = codes "return"
 keyword_text keyword.Signed = codes "signed"
+keyword_text keyword.Sizeof = codes "sizeof"
 keyword_text keyword.Struct = codes "struct"
 keyword_text keyword.Unsigned = codes "unsigned"
 keyword_text keyword.Void = codes "void"

@@ -1,8 +1,9 @@
 -- The words of statements and of declarations stand apart.
-use Rattle.sc_parse_print_laws.proofs.Common.{BaseTree, Bool, CallTree, Decl, Each, ExprTree, FunctionTree, GlobalTree}
-use Rattle.sc_parse_print_laws.proofs.Common.{HeadTree, InitTree, IsTrue, Layout, List, LocalTree, MemberTree, None}
-use Rattle.sc_parse_print_laws.proofs.Common.{Number, Option, ParamTree, Piece, SimpleKind, SimpleTree, Some, StmtKind}
-use Rattle.sc_parse_print_laws.proofs.Common.{StmtTree, TypeName, TypeTree, [], all_kept, and_parts, append-nil}
+use Rattle.sc_parse_print_laws.proofs.Common.{[], Keyword, kept_malloc, malloc_argument, malloc_words, BaseTree, Bool}
+use Rattle.sc_parse_print_laws.proofs.Common.{CallTree, Decl, Each, ExprTree, FunctionTree, GlobalTree, HeadTree}
+use Rattle.sc_parse_print_laws.proofs.Common.{InitTree, IsTrue, Layout, List, LocalTree, MemberTree, None, Number}
+use Rattle.sc_parse_print_laws.proofs.Common.{Option, ParamTree, Piece, SimpleKind, SimpleTree, Some, StmtKind}
+use Rattle.sc_parse_print_laws.proofs.Common.{StmtTree, TypeName, TypeTree, all_kept, and_parts, append-nil}
 use Rattle.sc_parse_print_laws.proofs.Common.{append_assoc, are_kept, base_words, blank, blank_if, block_words}
 use Rattle.sc_parse_print_laws.proofs.Common.{call_words, chain_words, codes, comma, condition_words, const_words}
 use Rattle.sc_parse_print_laws.proofs.Common.{decl_words, declared_words, deeper, else_words, ended, equals, expr_words}
@@ -24,16 +25,16 @@ use Rattle.sc_ast.specs.declared.stmt.StmtKind.TheOpen as layer
 use Rattle.sc_lex.specs.declared.token.TokenKind.TheVariants as kind
 use Rattle.sc_parse_print_laws.specs.KeptStmts as kept
 use Rattle.sc_parse_expr.specs.declared.mark.Keyword.TheVariants as keyword
-use Rattle.sc_ast.specs.declared.types.BaseTree.TheVariants as base
 use Rattle.sc_ast.specs.declared.section.InitTree.TheVariants as init
 use Rattle.sc_ast.specs.declared.section.Decl.TheVariants as decl
-use Rattle.sc_parse_print_laws.proofs.Stmts.{all_at, kept_each, each_kept, Of, Forms, by_forms}
+use Rattle.sc_parse_print_laws.proofs.Stmts.{argument_kept, all_at, kept_each, each_kept, Of, Forms, by_forms}
 use Rattle.sc_parse_print_laws.proofs.Literals.{name_kind, name_some, literal_kind, literal_some}
 use Rattle.sc_parse_print_laws.proofs.Spacing.{IsWord, Calm, plain_word, equal_word, keyword_word, lone_word, Tidy}
 use Rattle.sc_parse_print_laws.proofs.Spacing.{none, gap, next, at_level, line_end, tidy_append, Sound, tidy_at, lone}
-use Rattle.sc_parse_print_laws.proofs.Spacing.{Quiet, quiet, prefix_word, signed, minus, asterisk, word_quiet}
-use Rattle.sc_parse_print_laws.proofs.Tables.{open_paren, close_paren, semicolon, comma_mark, open_curly, close_curly}
-use Rattle.sc_parse_print_laws.proofs.Tables.{open_square, close_square}
+use Rattle.sc_parse_print_laws.proofs.Spacing.{Quiet, base_tidy, calm_if, gap_if, name_tidy, quiet, prefix_word, signed}
+use Rattle.sc_parse_print_laws.proofs.Spacing.{minus, stars_tidy, word_quiet}
+use Rattle.sc_parse_print_laws.proofs.Tables.{keyword_text, open_paren, close_paren, semicolon, comma_mark, open_curly}
+use Rattle.sc_parse_print_laws.proofs.Tables.{close_curly, open_square, close_square}
 use Rattle.sc_ast.specs.declared.section.StructTree.{StructTree}
 use Rattle.sc_parse_print_laws.proofs.Sections.{length_fits}
 
@@ -81,12 +82,27 @@ pub assigned_tidy : (place : ExprTree) (value : List Piece) → IsTrue (kept_pla
 assigned_tidy place value k t rest calm = tidy_append (place_words place) (equals ++ value) rest
     (place_tidy place k _ refl) (gap (next (equal_word _) (gap (t rest calm))))
 
+-- `malloc` and `free` and what they are given
+given_tidy : (w : Keyword) (e : ExprTree) → IsTrue (is_kept e) →
+    Free (word (keyword_text w) ∷ word (codes "(") ∷ (expr_words e ++ word (codes ")") ∷ []))
+given_tidy w e k rest = next (keyword_word w _ refl)
+    (lone open_paren (closing _ (codes ")") (expr_tidy e k) (λ r. refl) (lone_word close_paren) rest))
+
+malloc_tidy : (place : ExprTree) (count : Option ExprTree) (of : TypeName) → IsTrue (kept_malloc place count of) →
+    Sound (malloc_words place count of)
+malloc_tidy place count of k =
+    let parts = and_parts _ _ k in
+    assigned_tidy place _ parts.0
+    (λ rest calm. given_tidy keyword.Malloc (malloc_argument count of) (argument_kept count of parts.1) rest)
+
 pub simple_tidy : (k : SimpleKind) → IsTrue (kept_simple k) → Sound (simple_words k)
 simple_tidy (simple.Assign place value) k = let parts = and_parts _ _ k in
     assigned_tidy place _ parts.0 (expr_tidy value parts.1)
 simple_tidy (simple.AssignCall place call) k = let parts = and_parts _ _ k in
     assigned_tidy place _ parts.0 (λ rest calm. call_tidy call parts.1 rest)
 simple_tidy (simple.Call call) k = λ rest calm. call_tidy call k rest
+simple_tidy (simple.Malloc place count of) k = malloc_tidy place count of k
+simple_tidy (simple.Free pointer) k = λ rest calm. given_tidy keyword.Free pointer k rest
 
 pub ended_tidy : (pieces : List Piece) → Sound pieces → Free (ended pieces)
 ended_tidy pieces t = closing pieces _ t (λ r. refl) (lone_word semicolon)
@@ -154,6 +170,9 @@ form (layer.Assign place value) inside k depth rest = ended_tidy _ (simple_tidy 
 form (layer.AssignCall place call) inside k depth rest =
     ended_tidy _ (simple_tidy (simple.AssignCall place call) k) rest
 form (layer.Call call) inside k depth rest = ended_tidy _ (simple_tidy (simple.Call call) k) rest
+form (layer.Malloc place count of) inside k depth rest =
+    ended_tidy _ (simple_tidy (simple.Malloc place count of) k) rest
+form (layer.Free pointer) inside k depth rest = ended_tidy _ (simple_tidy (simple.Free pointer) k) rest
 form (layer.If cond then_part else_part) inside k depth rest =
     let parts = and_parts (is_kept cond) _ k in
     let both = and_parts (all_kept (map is_kept_stmt then_part)) (all_kept (map is_kept_stmt else_part)) parts.1 in
@@ -183,27 +202,9 @@ stmt_holds = by_forms Apart form
 pub stmts_tidy : (stmts : List StmtTree) → IsTrue (are_kept stmts) → (depth : ℕ) → Free (lines_at depth (layouts stmts))
 stmts_tidy stmts k depth = lines_tidy depth stmts (each_kept _ stmts stmt_holds k)
 
-name_tidy : (name : List ℕ) → IsTrue (is_ident name) → (rest : List ℕ) → Calm rest → IsWord name rest
-name_tidy name ident rest calm = plain_word name rest kind.Ident (name_some name ident) (name_kind name ident) calm
-
 literal_tidy : (number : Number) → IsTrue (fits number) → (rest : List ℕ) → Calm rest →
     IsWord (literal_text number) rest
 literal_tidy number k rest calm = plain_word _ rest kind.Integer (literal_some number k) (literal_kind number k) calm
-
-base_tidy : (b : BaseTree) → IsTrue (kept_base b) → Sound (base_words b)
-base_tidy base.Int k rest calm = next (keyword_word keyword.Int _ calm) none
-base_tidy base.Unsigned k rest calm = next (keyword_word keyword.Unsigned _ refl)
-    (gap (next (keyword_word keyword.Int _ calm) none))
-base_tidy (base.Struct tag) k rest calm = next (keyword_word keyword.Struct _ refl)
-    (gap (next (name_tidy tag k _ calm) none))
-
-stars_quiet : (stars : ℕ) (rest : List ℕ) → Quiet rest → Quiet (text_of (star_words stars) ++ rest)
-stars_quiet zero rest q = q
-stars_quiet (suc n) rest q = refl
-
-stars_tidy : (stars : ℕ) (rest : List ℕ) → Quiet rest → Tidy (star_words stars) rest
-stars_tidy zero rest q = none
-stars_tidy (suc n) rest q = next (prefix_word asterisk _ (quiet (stars_quiet n rest q))) (stars_tidy n rest q)
 
 name_first : (name : List ℕ) (more : List Piece) → IsTrue (is_ident name) → (rest : List ℕ) →
     Quiet (text_of (word name ∷ more) ++ rest)
@@ -308,16 +309,6 @@ result_tidy : (r : Option TypeName) → IsTrue (kept_result r) → (rest : List 
 result_tidy None k rest q = next (keyword_word keyword.Void _ refl) (gap none)
 result_tidy (Some ty) k rest q = tidy_append (base_words ty.base) (blank ∷ star_words _) rest
     (base_tidy ty.base k _ refl) (gap (stars_tidy _ rest q))
-
-gap_if : (wanted : Bool) (pieces : List Piece) (rest : List ℕ) → Tidy pieces rest →
-    Tidy (blank_if wanted ++ pieces) rest
-gap_if true pieces rest t = gap t
-gap_if false pieces rest t = t
-
-calm_if : (wanted : Bool) (pieces : List Piece) (rest : List ℕ) → Calm (text_of pieces ++ rest) →
-    Calm (text_of (blank_if wanted ++ pieces) ++ rest)
-calm_if true pieces rest calm = refl
-calm_if false pieces rest calm = calm
 
 -- pieces that stand apart, whatever calm and quiet text follows them
 abbrev Settled : List Piece → Type 0

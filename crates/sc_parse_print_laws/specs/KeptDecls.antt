@@ -1,9 +1,7 @@
 -- Helping: what the leaves of declarations keep.
-use Rattle.sc_parse_print_laws.specs.Common.{Decl, ExprTree, fits, head_of, is_ident}
+use Rattle.sc_parse_print_laws.specs.Common.{Decl, fits, head_of, is_ident}
 use Rattle.std.specs.Prelude.{ℕ, Bool, true, false, ◌&&◌, nat_le, List, [], ◌∷◌, Option, Some, None}
 use Rattle.std.specs.List.{list_all}
-use Rattle.sc_ast.specs.declared.types.BaseTree.{BaseTree}
-use Rattle.sc_ast.specs.declared.types.BaseTree.TheVariants as base
 use Rattle.sc_ast.specs.declared.types.TypeTree.{TypeTree}
 use Rattle.sc_ast.specs.declared.types.TypeName.{TypeName}
 use Rattle.sc_ast.specs.declared.section.MemberTree.{MemberTree}
@@ -17,12 +15,8 @@ use Rattle.sc_ast.specs.declared.section.HeadTree.{HeadTree}
 use Rattle.sc_ast.specs.declared.section.LocalTree.{LocalTree}
 use Rattle.sc_ast.specs.declared.section.FunctionTree.{FunctionTree}
 use Rattle.sc_ast.specs.declared.section.Decl.TheVariants as decl
-use Rattle.sc_parse_print_laws.specs.Kept.{is_kept}
+use Rattle.sc_parse_print_laws.specs.Kept.{kept_base, kept_value}
 use Rattle.sc_parse_print_laws.specs.KeptStmts.{are_kept}
-
-abbrev pub kept_base : BaseTree → Bool
-kept_base (base.Struct tag) = is_ident tag
-kept_base _ = true
 
 -- at least 1, and a number of 32 bits
 abbrev pub kept_length : Option ℕ → Bool
@@ -66,10 +60,6 @@ kept_result (Some ty) = kept_base ty.base
 
 abbrev pub kept_head : HeadTree → Bool
 kept_head head = kept_result head.result && (is_ident head.name && list_all kept_param head.params)
-
-abbrev pub kept_value : Option ExprTree → Bool
-kept_value None = true
-kept_value (Some value) = is_kept value
 
 abbrev pub kept_local : LocalTree → Bool
 kept_local tree = kept_type tree.ty && (is_ident tree.name && kept_value tree.init)

@@ -1,11 +1,21 @@
-ghost use Rattle.sc_parse_print_laws.specs.Prelude.{are_kept, is_kept, is_kept_stmt, kept_call, kept_kind, kept_option};
-ghost use Rattle.sc_parse_print_laws.specs.Prelude.{kept_place, kept_simple};
+ghost use Rattle.sc_parse_print_laws.specs.Prelude.{are_kept, is_kept, is_kept_stmt, kept_base, kept_call, kept_kind};
+ghost use Rattle.sc_parse_print_laws.specs.Prelude.{kept_malloc, kept_option, kept_place, kept_simple, kept_value};
 ghost use Rattle.std.specs.Prelude.{◌≡◌, true, IsTrue};
 ghost use Rattle.std.specs.List.{list_all};
 
 use sc_ast::{
-    CallTree, ExprTree, Exprs, PlaceTree, SimpleKind, SimpleTree, StmtKind, StmtTree, Stmts,
+    BaseTree, CallTree, ExprTree, Exprs, PlaceTree, SimpleKind, SimpleTree, StmtKind, StmtTree,
+    Stmts, TypeName,
 };
+
+/// What the base of a type keeps holds of all of them, since a name was made by a test.
+pub fn keeps_base(base: &BaseTree)
+    ensures { IsTrue (kept_base base.now) }
+{
+    if let BaseTree::Struct(tag) = base {
+        let _tag = tag.as_bytes();
+    }
+}
 
 /// What the leaves of an expression keep holds of all of them, since each was made by a test.
 pub fn keeps_leaves(expr: &ExprTree)
@@ -37,6 +47,16 @@ pub fn keeps_leaves(expr: &ExprTree)
         }
         ExprTree::Deref(of) => keeps_leaves(of.get()),
         ExprTree::Address(of) => keeps_leaves(of.get()),
+        ExprTree::SizeOf(of) => keeps_base(&of.base),
+    }
+}
+
+/// The same of an expression that may be absent.
+pub fn keeps_value(value: &Option<ExprTree>)
+    ensures { IsTrue (kept_value value.now) }
+{
+    if let Some(value) = value {
+        keeps_leaves(value);
     }
 }
 
@@ -61,6 +81,14 @@ fn keeps_call(call: &CallTree)
     keeps_args(&call.args);
 }
 
+fn keeps_malloc(place: &PlaceTree, count: &Option<ExprTree>, of: &TypeName)
+    ensures { IsTrue (kept_malloc place.now count.now of.now) }
+{
+    keeps_place(place);
+    keeps_value(count);
+    keeps_base(&of.base);
+}
+
 fn keeps_simple(kind: &SimpleKind)
     ensures { IsTrue (kept_simple kind.now) }
 {
@@ -74,6 +102,8 @@ fn keeps_simple(kind: &SimpleKind)
             keeps_call(call);
         }
         SimpleKind::Call(call) => keeps_call(call),
+        SimpleKind::Malloc { place, count, of } => keeps_malloc(place, count, of),
+        SimpleKind::Free(pointer) => keeps_leaves(pointer),
     }
 }
 
@@ -116,6 +146,8 @@ fn keeps_kind(kind: &StmtKind)
             keeps_call(call);
         }
         StmtKind::Call(call) => keeps_call(call),
+        StmtKind::Malloc { place, count, of } => keeps_malloc(place, count, of),
+        StmtKind::Free(pointer) => keeps_leaves(pointer),
         StmtKind::If {
             cond,
             then_part,

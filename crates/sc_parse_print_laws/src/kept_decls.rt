@@ -1,26 +1,18 @@
 //! What the leaves of declarations keep holds of all of them.
 
-ghost use Rattle.sc_parse_print_laws.specs.Prelude.{head_of, is_kept_decl, kept_base, kept_const, kept_function};
+ghost use Rattle.sc_parse_print_laws.specs.Prelude.{head_of, is_kept_decl, kept_const, kept_function};
 ghost use Rattle.sc_parse_print_laws.specs.Prelude.{kept_global, kept_head, kept_init, kept_length, kept_local};
 ghost use Rattle.sc_parse_print_laws.specs.Prelude.{kept_member, kept_name, kept_param, kept_result, kept_struct};
-ghost use Rattle.sc_parse_print_laws.specs.Prelude.{kept_type, kept_value, param_of, some_kept};
+ghost use Rattle.sc_parse_print_laws.specs.Prelude.{kept_type, param_of, some_kept};
 ghost use Rattle.std.specs.Prelude.{◌≡◌, ◌<◌, true, IsTrue, map, length};
 ghost use Rattle.std.specs.List.{list_all};
 
-use crate::kept::{keep_leaves, keeps_leaves};
+use crate::kept::{keep_leaves, keeps_base, keeps_value};
 use sc_ast::{
-    ArrayLength, BaseTree, ConstTree, Consts, Decl, Decls, ExprTree, FunctionHead, FunctionParams,
-    FunctionTree, GlobalTree, HeadTree, Ident, InitTree, LocalTree, LocalTrees, MemberTree,
-    MemberTrees, ParamTree, ParamTrees, StructTree, TypeName, TypeTree,
+    ArrayLength, ConstTree, Consts, Decl, Decls, FunctionHead, FunctionParams, FunctionTree,
+    GlobalTree, HeadTree, Ident, InitTree, LocalTree, LocalTrees, MemberTree, MemberTrees,
+    ParamTree, ParamTrees, StructTree, TypeName, TypeTree,
 };
-
-fn keeps_base(base: &BaseTree)
-    ensures { IsTrue (kept_base base.now) }
-{
-    if let BaseTree::Struct(tag) = base {
-        let _tag = tag.as_bytes();
-    }
-}
 
 fn keeps_length(length: Option<ArrayLength>)
     ensures { IsTrue (kept_length length) }
@@ -147,14 +139,6 @@ fn keeps_head(head: &FunctionHead)
     let _name = head.name.as_bytes();
     keeps_result(&head.result);
     keeps_named_params(&head.params);
-}
-
-fn keeps_value(value: &Option<ExprTree>)
-    ensures { IsTrue (kept_value value.now) }
-{
-    if let Some(value) = value {
-        keeps_leaves(value);
-    }
 }
 
 fn keeps_local(tree: &LocalTree)

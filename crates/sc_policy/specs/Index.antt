@@ -1,4 +1,4 @@
--- Helping: the rules of each state, by their places in the list of rules.
+-- The rules of each state, by their places in the list of rules.
 use Rattle.std.specs.Prelude.{◌≡◌, ℕ, suc, ◌==◌, List, [], ◌∷◌, ◌++◌, slice_index_or, if◌then◌else◌}
 use Rattle.sc_policy.specs.declared.policy.Rule.{Rule}
 

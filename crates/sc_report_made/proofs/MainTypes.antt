@@ -28,6 +28,7 @@ use Rattle.sc_report_made.proofs.Signatures.{last_decls, no_globals, output_type
 -- what is visible in `main`: its local
 abbrev pub main_visible : Visible
 main_visible = record {
+  tags = [];
   structs = [];
   globals = [];
   params = [];
@@ -110,6 +111,7 @@ module _ (size seed : ℕ) (section : SectionTree) (main : IsMain size seed sect
 
   visible_is : visible_of section (tree_of size seed section main) ≡ main_visible
   visible_is = λ i. record {
+    tags = no_tags size seed section main i;
     structs = structs_none i;
     globals = map (global_variable (no_tags size seed section main i)) (no_globals size seed section main i);
     params = [];

@@ -32,7 +32,7 @@ use Rattle.sc_report_made.proofs.Shapes.{no_workers}
 module _ (callables : List Text) where
   -- what may be named in it: its local, and functions
   abbrev in_main : Known
-  in_main = record { variables = codes "r" ∷ []; functions = callables; hiding = codes "r" ∷ [] }
+  in_main = record { tags = []; variables = codes "r" ∷ []; functions = callables; hiding = codes "r" ∷ [] }
 
   result_known : expr_known in_main (Variable (codes "r")) ≡ true
   result_known = search (rules, exprs.the_lemmas)
@@ -171,7 +171,7 @@ module _ (callables : List Text) where
   own = codes "x" ∷ codes "i" ∷ codes "s" ∷ []
 
   abbrev in_function : Known
-  in_function = record { variables = codes "t" ∷ own; functions = callables; hiding = own }
+  in_function = record { tags = []; variables = codes "t" ∷ own; functions = callables; hiding = own }
 
   set_known : (seed j line : ℕ) → stmt_name_lines in_function (stmt_at line (set_kind seed j)) false ≡ []
   set_known seed j line = search (rules, exprs.the_lemmas, kinds.the_lemmas, stmts.the_lemmas)

@@ -45,6 +45,7 @@ module _ (size seed i : ℕ) (section : SectionTree) (worker : IsWorker size see
 
     visible_is : visible_of section tree ≡ worker_visible
     visible_is = λ i. record {
+      tags = no_tags i;
       structs = structs_none i;
       globals = map (global_variable (no_tags i)) (one_global i);
       params = record { name = codes "x"; ty = ty.Int } ∷ [];

@@ -22,6 +22,7 @@ use Rattle.sc_report_made.proofs.Literals.{addend_small, literal_goes}
 -- what is visible in a function: the table, the parameter and both locals
 abbrev pub worker_visible : Visible
 worker_visible = record {
+  tags = [];
   structs = [];
   globals = record { name = codes "t"; ty = ty.Array 0 base.Int 16 } ∷ [];
   params = record { name = codes "x"; ty = ty.Int } ∷ [];

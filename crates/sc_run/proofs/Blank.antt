@@ -4,12 +4,18 @@ use Rattle.sc_run.proofs.Common.{Meant, Memory, None, Ok, Option, OutOfBounds, P
 use Rattle.sc_run.proofs.Common.{TypedStruct, Value, Ways, Word, [], ap, applied, applied_one, at_place, at_pointer}
 use Rattle.sc_run.proofs.Common.{between, binary, bind, blocks_for, c_arith, cell_of, cells_at, choose, cleared, ended}
 use Rattle.sc_run.proofs.Common.{expr_at, false, given_back, if◌then◌else◌, is_array, is_inside, is_live, is_pointer}
-use Rattle.sc_run.proofs.Common.{is_true, is_unsigned, is_unsigned_op, length, length-map, live_cells, living, load}
-use Rattle.sc_run.proofs.Common.{loaded, map, map-append, map-set, meant, meant_step, moved, moved_back, moved_on}
+use Rattle.sc_run.proofs.Common.{is_some, is_true, is_unsigned, is_unsigned_op, length, length-map, live_cells, living}
+use Rattle.sc_run.proofs.Common.{load, loaded, map, map-append, map-set, meant, meant_step, moved, moved_back, moved_on}
 use Rattle.sc_run.proofs.Common.{nat_lt, not, of_bool, on_words, place_at, pos, refl, replicate, same_place, slice_get}
 use Rattle.sc_run.proofs.Common.{slice_set, store, subst, suc, sym, target_cells, term_of, term_step, true, typed}
 use Rattle.sc_run.proofs.Common.{values, variable, variable_at, wanted, ways, with_blocks, with_cell, zero, ℕ, ℤ, ◌&&◌}
 use Rattle.sc_run.proofs.Common.{◌++◌, ◌+ℤ◌, ◌==◌, ◌∙◌, ◌∷◌, ◌≡◌}
+use Rattle.std.proofs.lemmas.Option.{slice_get-map}
+use Rattle.std.specs.Option.{option_map}
+use Rattle.std.specs.Prelude.{fold}
+use Rattle.sc_zone.specs.declared.span.Span.{Span}
+use Rattle.sc_core.specs.Prelude.{count_ways, freed, over, spans_of, with_block, without_block}
+use Rattle.sc_core.specs.declared.cause.Cause.TheVariants.{BadFree}
 use Rattle.sc_core.specs.declared.value.Value.TheVariants.{Null}
 use Rattle.sc_core.specs.declared.value.Pointer.{Pointer}
 use Rattle.sc_base.specs.declared.op.BinaryOp.{BinaryOp}
@@ -21,7 +27,7 @@ use Rattle.sc_core.specs.declared.value.Want.{Want}
 use Rattle.sc_core.specs.declared.value.Want.TheVariants as want
 use Rattle.sc_core.proofs.Induction.{Under, expr_induction}
 use Rattle.sc_core.specs.declared.value.Cell.TheVariants as cell
-use Rattle.sc_blocks.specs.Rows.{ended_block}
+use Rattle.sc_blocks.specs.Rows.{ended_block, free_cell}
 
 abbrev pub blank : Blocks → Blocks
 blank bs = map given_back bs
@@ -46,6 +52,11 @@ module _ (cells : List Cell) (place : Option ℕ) where
   given_living true = refl
   given_living false = refl
 
+  given_span : (spans : List Span) (live : Bool) →
+      with_block spans (given_back (block_of live)) ≡ with_block spans (block_of live)
+  given_span spans true = refl
+  given_span spans false = refl
+
   given_twice : (live : Bool) → given_back (given_back (block_of live)) ≡ given_back (block_of live)
   given_twice true = refl
   given_twice false = refl
@@ -64,6 +75,19 @@ living_same : (bs : Blocks) (k : ℕ) → living (slice_get (blank bs) k) ≡ li
 living_same [] k = refl
 living_same (b ∷ bs) zero = given_living b.cells b.place b.live
 living_same (b ∷ bs) (suc k) = living_same bs k
+
+spans_from : (spans : List Span) (bs : Blocks) → fold with_block spans (blank bs) ≡ fold with_block spans bs
+spans_from spans [] = refl
+spans_from spans (b ∷ bs) = ap (λ l. fold with_block l (blank bs)) (given_span b.cells b.place spans b.live) ∙
+    spans_from (with_block spans b) bs
+
+-- the zone is that of the blocks that live
+pub spans_same : (bs : Blocks) → spans_of (blank bs) ≡ spans_of bs
+spans_same bs = spans_from [] bs
+
+blank_twice : (bs : Blocks) → blank (blank bs) ≡ blank bs
+blank_twice [] = refl
+blank_twice (b ∷ bs) = λ i. given_twice b.cells b.place b.live i ∷ blank_twice bs i
 
 pub length_same : (bs : Blocks) → length (blank bs) ≡ length bs
 length_same bs = length-map bs _
@@ -102,6 +126,36 @@ stored_same bs p v (Some b) = one_same bs p v b.place b.cells b.live
 pub store_same : (bs : Blocks) (q v : Value) → store (blank bs) q v ≡ blanked (store bs q v)
 store_same bs (Ptr p) v = ap (λ c. bind c (with_cell (blank bs) p v)) (living_same bs p.block) ∙ stored_same bs p v _
 store_same bs _ v = refl
+
+module _ (bs : Blocks) (k : ℕ) (cells : List Cell) (place : Option ℕ) where
+  over_same : (b : Bool) →
+      blanked (if b then Ok (slice_set (blank bs) k (over (block_of cells place true))) else Err BadFree) ≡
+      blanked (if b then Ok (slice_set bs k (over (block_of cells place true))) else Err BadFree)
+  over_same true = ap Ok (map-set _ (blank bs) k _ ∙ ap (λ cs. slice_set cs k ended_block) (blank_twice bs) ∙
+      sym (map-set _ bs k _))
+  over_same false = refl
+
+  gone_same : (live : Bool) →
+      blanked (without_block (blank bs) k (Some (given_back (block_of cells place live)))) ≡
+      blanked (without_block bs k (Some (block_of cells place live)))
+  gone_same true = over_same (is_some place)
+  gone_same false = refl
+
+without_same : (bs : Blocks) (k : ℕ) (o : Option Block) →
+    blanked (without_block (blank bs) k (option_map given_back o)) ≡ blanked (without_block bs k o)
+without_same bs k None = refl
+without_same bs k (Some b) = gone_same bs k b.cells b.place b.live
+
+pub free_same : (bs : Blocks) (v : Value) → free_cell (blank bs) (cell_of v) ≡ blanked (freed bs v)
+free_same bs (Word w) = refl
+free_same bs Null = refl
+free_same bs (Ptr p) = by (p.index == 0) where
+  by : (b : Bool) →
+      blanked (if b then without_block (blank bs) p.block (slice_get (blank bs) p.block) else Err BadFree) ≡
+      blanked (if b then without_block bs p.block (slice_get bs p.block) else Err BadFree)
+  by true = ap (λ o. blanked (without_block (blank bs) p.block o)) (slice_get-map given_back bs p.block) ∙
+      without_same bs p.block (slice_get bs p.block)
+  by false = refl
 
 pub blank_more : (bs cs : Blocks) → blank (bs ++ cs) ≡ blank bs ++ blank cs
 blank_more bs cs = map-append _ bs cs
@@ -218,6 +272,7 @@ module _ (structs : List TypedStruct) where
         (λ bs i. bind (h want.Value bs i) (λ q. moved_same bs (pos offset) q i))
     term_same ty (term.Deref a) h = at_same ty _ (λ bs. h want.Value bs)
     term_same ty (term.Address a) h = λ wish bs. h want.Place bs
+    term_same ty (term.SizeOf cells) h = λ wish bs. refl
 
     layer_same : (ty : Ty) (k : TypedKind-F TypedKind TypedExpr) → Under Same k → Same (typed ty k)
     layer_same ty k h = subst (λ m. WaySame m.way) (sym (expr_at _ _ (term_step c_arith structs here params) _ ty k))
@@ -225,6 +280,10 @@ module _ (structs : List TypedStruct) where
 
     pub way_same : (e : TypedExpr) → WaySame (ways c_arith structs here params e)
     way_same e = expr_induction Same layer_same e
+
+    pub count_same : (count : Option TypedExpr) → WaySame (count_ways c_arith structs here params count)
+    count_same None = λ wish bs. refl
+    count_same (Some e) = way_same e
 
     pub values_same : (es : List TypedExpr) (bs : Blocks) → values (map (ways c_arith structs here params) es)
         (blank bs) ≡ values (map (ways c_arith structs here params) es) bs

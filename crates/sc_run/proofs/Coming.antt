@@ -1,9 +1,17 @@
 -- Pieces of a run, one after the other.
-use Rattle.sc_run.proofs.Common.{Blamed, Blocks, CameTo, Cause, Comes, Err, Here, Left, Memory, Next, Ok, Piece}
-use Rattle.sc_run.proofs.Common.{Reached, Result, RunEnd, Seen, State, Stopped, TurnsOut, Value, and_then, ap, arith}
-use Rattle.sc_run.proofs.Common.{computed, leave, refl, seen_of, store, stored, subst, suc, sym, turn, turn_of}
-use Rattle.sc_run.proofs.Common.{with_blocks, with_exit, zero, ℕ, ◌∙◌, ◌≡◌}
-use Rattle.sc_run.proofs.Blank.{blank, blanked, store_same, memory_with}
+use Rattle.sc_run.proofs.Common.{Blamed, Blocks, Bool, CameTo, Cause, Comes, Err, Here, Left, Memory, Next, None, Ok}
+use Rattle.sc_run.proofs.Common.{Option, Piece, Ptr, Reached, Result, RunEnd, Seen, Some, State, Stopped, TurnsOut}
+use Rattle.sc_run.proofs.Common.{Value, [], and_then, ap, arith, cell_of, computed, false, if◌then◌else◌, leave, length}
+use Rattle.sc_run.proofs.Common.{refl, seen_of, store, stored, subst, suc, sym, true, turn, turn_of, with_blocks}
+use Rattle.sc_run.proofs.Common.{with_exit, zero, ℕ, ◌++◌, ◌==◌, ◌∙◌, ◌∷◌, ◌≡◌}
+use Rattle.std.proofs.Common.{eqb-true}
+use Rattle.std.specs.Option.{option_map}
+use Rattle.sc_zone.specs.Prelude.{least_free}
+use Rattle.sc_blocks.specs.Rows.{free_cell, free_place, with_words}
+use Rattle.sc_core.specs.Prelude.{allocated, allocated_at, placed, released}
+use Rattle.sc_core.specs.declared.value.Value.TheVariants.{Null}
+use Rattle.sc_run.proofs.Blank.{blank, blank_more, blanked, free_same, length_same, memory_with, spans_same}
+use Rattle.sc_run.proofs.Blank.{store_same}
 
 -- statements that come to their end
 abbrev pub usual : Result (Left (Unit {0})) RunEnd
@@ -74,30 +82,43 @@ then_goes {middle} {after} {v} {r} {p} go h k =
       by_piece (Reached w s) c = subst (λ x. CameTo r after (go x s)) (sym c.0) (k.comes s c.1)
       by_piece (Stopped e s) c = elim c [ ]
 
--- a store
-module _ (here : Here) (q v : Value) (line : ℕ) (seen : Seen) (after : Blocks) where
-  stored_at : (s : State) (r : Result Blocks Cause) → seen_of s ≡ seen → blanked r ≡ Ok after → CameTo usual (record
+-- other blocks in the compartment
+module _ (here : Here) (line : ℕ) (seen : Seen) (after : Blocks) where
+  changed_at : (s : State) (r : Result Blocks Cause) → seen_of s ≡ seen → blanked r ≡ Ok after → CameTo usual (record
       seen { memory = with_blocks here.comp after seen.memory }) (and_then (computed here line r s) (λ blocks s. leave
       {A = Unit {0}} Next tt (record s { memory = with_blocks here.comp blocks s.memory })))
-  stored_at s (Ok blocks) is_seen is = (
+  changed_at s (Ok blocks) is_seen is = (
     refl,
     seen_with s here.comp blocks is_seen ∙ ap (λ bs. record seen { memory = with_blocks here.comp bs seen.memory })
         (unwrap (blank blocks) after is),
   ) where
     unwrap : (a b : Blocks) → ◌≡◌ {A = Result Blocks Cause} (Ok a) (Ok b) → a ≡ b
     unwrap a b h = cc h
-  stored_at s (Err cause) is_seen is = cc is
+  changed_at s (Err cause) is_seen is = cc is
 
+module _ (here : Here) (q v : Value) (line : ℕ) (seen : Seen) (after : Blocks) where
+  -- a store
   pub stored_comes : store (seen.memory here.comp) q v ≡ Ok after →
       Comes seen (record seen { memory = with_blocks here.comp after seen.memory }) usual (stored here q v line tt)
   stored_comes is =
       record {
-        comes = λ s is_seen. stored_at s _ is_seen
+        comes = λ s is_seen. changed_at here line seen after s _ is_seen
             (sym (store_same _ q v) ∙ ap (λ bs. store bs q v) (blocks_seen s _ is_seen) ∙ is);
         fewer = omega arith;
       }
 
-module _ (here : Here) (q v : Value) (line : ℕ) (seen : Seen) (cause : Cause) where
+module _ (here : Here) (v : Value) (line : ℕ) (seen : Seen) (after : Blocks) where
+  -- a block that is freed
+  released_comes : free_cell (seen.memory here.comp) (cell_of v) ≡ Ok after →
+      Comes seen (record seen { memory = with_blocks here.comp after seen.memory }) usual (released here v line tt)
+  released_comes is =
+      record {
+        comes = λ s is_seen. changed_at here line seen after s _ is_seen
+            (sym (free_same _ v) ∙ ap (λ bs. free_cell bs (cell_of v)) (blocks_seen s _ is_seen) ∙ is);
+        fewer = omega arith;
+      }
+
+module _ (here : Here) (line : ℕ) (seen : Seen) (cause : Cause) where
   blamed_at : (s : State) (r : Result Blocks Cause) → seen_of s ≡ seen → blanked r ≡ Err cause → CameTo (Err (Blamed
       here.comp cause line)) seen (and_then (computed here line r s) (λ blocks s. leave {A = Unit {0}} Next tt (record s
       { memory = with_blocks here.comp blocks s.memory })))
@@ -106,12 +127,23 @@ module _ (here : Here) (q v : Value) (line : ℕ) (seen : Seen) (cause : Cause) 
     unwrap : (a b : Cause) → ◌≡◌ {A = Result Blocks Cause} (Err a) (Err b) → a ≡ b
     unwrap a b h = cc h
 
+module _ (here : Here) (q v : Value) (line : ℕ) (seen : Seen) (cause : Cause) where
   pub stored_blamed : store (seen.memory here.comp) q v ≡ Err cause →
       Comes seen seen (with_exit {V = Unit {0}} Next (Err (Blamed here.comp cause line))) (stored here q v line tt)
   stored_blamed is =
       record {
-        comes = λ s is_seen. blamed_at s _ is_seen
+        comes = λ s is_seen. blamed_at here line seen cause s _ is_seen
             (sym (store_same _ q v) ∙ ap (λ bs. store bs q v) (blocks_seen s _ is_seen) ∙ is);
+        fewer = omega arith;
+      }
+
+module _ (here : Here) (v : Value) (line : ℕ) (seen : Seen) (cause : Cause) where
+  released_blamed : free_cell (seen.memory here.comp) (cell_of v) ≡ Err cause →
+      Comes seen seen (with_exit {V = Unit {0}} Next (Err (Blamed here.comp cause line))) (released here v line tt)
+  released_blamed is =
+      record {
+        comes = λ s is_seen. blamed_at here line seen cause s _ is_seen
+            (sym (free_same _ v) ∙ ap (λ bs. free_cell bs (cell_of v)) (blocks_seen s _ is_seen) ∙ is);
         fewer = omega arith;
       }
 
@@ -155,3 +187,75 @@ pub given_err : {V : Type 0} (here : Here) (line : ℕ) (f : Blocks → Result V
 given_err here line f same {seen} blame is =
     subst (λ e. Comes seen seen (Err e) (λ s. computed here line (f (s.memory here.comp)) s)) (sym blame)
     (computed_blamed here line f same seen is)
+
+pub released_ok : (here : Here) (v : Value) (line : ℕ) {seen : Seen} {memory : Memory} →
+    free_cell (seen.memory here.comp) (cell_of v) ≡ Ok (memory here.comp) →
+    memory ≡ with_blocks here.comp (memory here.comp) seen.memory →
+    Comes seen (with_memory seen memory) usual (released here v line tt)
+released_ok here v line {seen} is others = subst (λ m. Comes seen (with_memory seen m) usual (released here v line tt))
+    (sym others) (released_comes here v line seen _ is)
+
+pub released_err : (here : Here) (v : Value) (line : ℕ) {seen : Seen} {memory : Memory} {cause : Cause}
+    {end : RunEnd} → end ≡ Blamed here.comp cause line → free_cell (seen.memory here.comp) (cell_of v) ≡ Err cause →
+    memory ≡ seen.memory →
+    Comes seen (with_memory seen memory) (with_exit {V = Unit {0}} Next (Err end)) (released here v line tt)
+released_err here v line {seen} {memory} {cause} blame is same =
+    subst (λ e. Comes seen (with_memory seen memory) (with_exit {V = Unit {0}} Next (Err e)) (released here v line tt))
+    (sym blame) (subst (λ m. Comes seen (with_memory seen m)
+    (with_exit {V = Unit {0}} Next (Err (Blamed here.comp cause line))) (released here v line tt)) (sym same)
+    (released_blamed here v line seen cause is))
+
+same_at : (memory : Memory) (comp c : ℕ) (b : Bool) → (c == comp) ≡ b → memory c ≡ (if b then memory comp else memory c)
+same_at memory comp c true is = ap memory (eqb-true c comp is)
+same_at memory comp c false is = refl
+
+with_itself : (comp : ℕ) (memory : Memory) → memory ≡ with_blocks comp (memory comp) memory
+with_itself comp memory = λ i c. same_at memory comp c (c == comp) refl i
+
+-- null, or a pointer to the start of the block of this number
+abbrev pub start_of : Option ℕ → Value
+start_of None = Null
+start_of (Some number) = Ptr (record { block = number; index = 0 })
+
+-- a block that is allocated, at a place of the zone if there is one
+module _ (here : Here) (words : ℕ) (seen : Seen) where
+  abbrev pub more_blocks : Option ℕ → Memory
+  more_blocks place = with_blocks here.comp (with_words words place (seen.memory here.comp)) seen.memory
+
+  abbrev pub new_number : Option ℕ → Option ℕ
+  new_number place = option_map (λ p. length (seen.memory here.comp)) place
+
+  placed_at : (s : State) (place : Option ℕ) → seen_of s ≡ seen →
+      CameTo (Ok (start_of (new_number place))) (with_memory seen (more_blocks place)) (placed here words place s)
+  placed_at s None is_seen = (refl, is_seen ∙ ap (with_memory seen) (with_itself here.comp seen.memory))
+  placed_at s (Some place) is_seen = (
+    ap (λ n. start_of (Some n)) (sym (length_same (s.memory here.comp)) ∙ ap length (blocks_seen s here.comp is_seen)),
+    seen_with s here.comp (s.memory here.comp ++ allocated_at place words ∷ []) is_seen ∙
+        ap (λ bs. with_memory seen (with_blocks here.comp bs seen.memory))
+        (blank_more (s.memory here.comp) (allocated_at place words ∷ []) ∙
+        ap (λ bs. bs ++ allocated_at place words ∷ []) (blocks_seen s here.comp is_seen)),
+  )
+
+  found_at : (s : State) → seen_of s ≡ seen →
+      free_place (s.memory here.comp) words ≡ free_place (seen.memory here.comp) words
+  found_at s is_seen = ap (λ spans. least_free spans words) (sym (spans_same (s.memory here.comp))) ∙
+      ap (λ bs. free_place bs words) (blocks_seen s here.comp is_seen)
+
+  allocated_comes : (place : Option ℕ) → free_place (seen.memory here.comp) words ≡ place →
+      Comes seen (with_memory seen (more_blocks place)) (Ok (start_of (new_number place))) (allocated here words)
+  allocated_comes place is =
+      record {
+        comes = λ s is_seen. subst (λ p. CameTo (Ok (start_of (new_number place)))
+            (with_memory seen (more_blocks place)) (placed here words p s)) (sym (found_at s is_seen ∙ is))
+            (placed_at s place is_seen);
+        fewer = omega arith;
+      }
+
+  pub allocated_as : {number : Option ℕ} {memory : Memory} →
+      number ≡ new_number (free_place (seen.memory here.comp) words) →
+      memory ≡ more_blocks (free_place (seen.memory here.comp) words) →
+      Comes seen (with_memory seen memory) (Ok (start_of number)) (allocated here words)
+  allocated_as {number} is same =
+      subst (λ m. Comes seen (with_memory seen m) (Ok (start_of number)) (allocated here words)) (sym same)
+      (subst (λ n. Comes seen (with_memory seen (more_blocks (free_place (seen.memory here.comp) words)))
+      (Ok (start_of n)) (allocated here words)) (sym is) (allocated_comes _ refl))

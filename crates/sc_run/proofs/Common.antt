@@ -45,8 +45,9 @@ pub use Rattle.sc_core.specs.declared.section.TypedStruct.{TypedStruct}
 pub use Rattle.sc_core.specs.declared.stmt.TypedStmtKind.{TypedStmtKind, TypedStmtKind-F, roll-TypedStmtKind}
 pub use Rattle.sc_core.specs.declared.stmt.TypedStmtKind.TheVariants.{rolls-Assign, rolls-AssignCall, rolls-Break}
 pub use Rattle.sc_core.specs.declared.stmt.TypedStmtKind.TheVariants.{rolls-Call, rolls-Continue, rolls-Empty}
-pub use Rattle.sc_core.specs.declared.stmt.TypedStmtKind.TheVariants.{rolls-For, rolls-If, rolls-Return}
-pub use Rattle.sc_core.specs.declared.stmt.TypedStmtKind.TheVariants.{rolls-ReturnCall, rolls-ReturnValue, rolls-While}
+pub use Rattle.sc_core.specs.declared.stmt.TypedStmtKind.TheVariants.{rolls-For, rolls-Free, rolls-If, rolls-Malloc}
+pub use Rattle.sc_core.specs.declared.stmt.TypedStmtKind.TheVariants.{rolls-Return, rolls-ReturnCall}
+pub use Rattle.sc_core.specs.declared.stmt.TypedStmtKind.TheVariants.{rolls-ReturnValue, rolls-While}
 pub use Rattle.sc_core.specs.declared.value.Cell.{Cell}
 pub use Rattle.sc_core.specs.declared.value.Value.TheVariants.{Ptr, Word}
 pub use Rattle.sc_core_laws.proofs.Growing.{back_goes, calls_go, done_goes, earlier, follow_goes, prefix_more, stays}

@@ -4,9 +4,11 @@ use Rattle.sc_run.proofs.Common.{OutOfBounds, Result, Seen, Some, Value, Ways, W
 use Rattle.sc_run.proofs.Common.{cleared, emitted_call, ended, false, given_back, if◌then◌else◌, length, length-append}
 use Rattle.sc_run.proofs.Common.{length-map, living, nat_lt, refl, slice_get, store, subst, suc, sym, true, with_blocks}
 use Rattle.sc_run.proofs.Common.{with_cell, zero, ℕ, ◌++◌, ◌+◌, ◌<◌, ◌==◌, ◌∙◌, ◌∷◌, ◌≡◌, ◌≤◌}
-use Rattle.std.specs.Prelude.{MatchResult, OnErr}
-use Rattle.std.proofs.Common.{length-set, ◌*◌, ◌^◌}
-use Rattle.sc_core.specs.Prelude.{most_nodes}
+use Rattle.std.specs.Prelude.{MatchResult, OnErr, OnOk}
+use Rattle.std.proofs.Common.{is_some, length-set, map, slice_set, ◌&&◌, ◌*◌, ◌^◌}
+use Rattle.sc_blocks.specs.Rows.{free_cell, with_words}
+use Rattle.sc_core.specs.Prelude.{allocated_at, cell_of, most_nodes, over, without_block}
+use Rattle.sc_core.specs.declared.cause.Cause.TheVariants.{BadFree}
 use Rattle.sc_core.specs.declared.value.Pointer.{Pointer}
 use Rattle.sc_core.specs.declared.value.Value.TheVariants.{Null, Ptr}
 use Rattle.sc_run_value.specs.Assigning.{AssignedIf}
@@ -101,6 +103,70 @@ pub numbers_cleared : (comp first count : ℕ) {memory after : Memory} {turns : 
 numbers_cleared comp first count {memory} {turns} is h =
     subst (λ m. NumbersSuffice m turns) (sym is) (numbers_with comp (cleared first count (memory comp))
     (omega (arith, length_cleared first count (memory comp), h.numbers comp)) h)
+
+length_words : (words : ℕ) (place : Option ℕ) (bs : Blocks) → length (with_words words place bs) ≤ suc (length bs)
+length_words words None bs = omega arith
+length_words words (Some place) bs = omega (arith, length-append bs (allocated_at place words ∷ []))
+
+-- a block that is allocated takes one number
+pub numbers_allocated : (comp words : ℕ) (place : Option ℕ) {memory after : Memory} {turns : ℕ} →
+    after ≡ with_blocks comp (with_words words place (memory comp)) memory →
+    length (memory comp) + most_nodes * turns < 2 ^ 63 → NumbersSuffice memory turns → NumbersSuffice after turns
+numbers_allocated comp words place {memory} {turns} is few h =
+    subst (λ m. NumbersSuffice m turns) (sym is) (numbers_with comp (with_words words place (memory comp))
+    (omega (arith, length_words words place (memory comp), few)) h)
+
+-- the same, whether one was or not
+pub numbers_asked : {A E : Type 0} (result : Result A E) (comp words : ℕ) (place : Option ℕ)
+    {memory after : Memory} {turns : ℕ} →
+    OnOk result (after ≡ with_blocks comp (with_words words place (memory comp)) memory) →
+    OnErr result (after ≡ memory) → length (memory comp) + most_nodes * turns < 2 ^ 63 →
+    NumbersSuffice memory turns → NumbersSuffice after turns
+numbers_asked (Ok x) comp words place is same few h = numbers_allocated comp words place is few h
+numbers_asked (Err e) comp words place {turns} is same few h = subst (λ m. NumbersSuffice m turns) (sym same) h
+
+length_over : (b : Bool) (bs : Blocks) (k : ℕ) (block : Block) {after : Blocks} →
+    bind (if b then Ok (slice_set bs k block) else Err BadFree) (λ cs. Ok (map given_back cs)) ≡ Ok after →
+    length after ≡ length bs
+length_over true bs k block {after} h =
+    let same : after ≡ map given_back (slice_set bs k block) = cc h in
+    ap length same ∙ length-map (slice_set bs k block) given_back ∙ length-set bs k block
+length_over false bs k block h = absurd (cc h)
+
+length_without : (bs : Blocks) (k : ℕ) (o : Option Block) {after : Blocks} →
+    bind (without_block bs k o) (λ cs. Ok (map given_back cs)) ≡ Ok after → length after ≡ length bs
+length_without bs k None h = absurd (cc h)
+length_without bs k (Some b) h = length_over (b.live && is_some b.place) bs k (over b) h
+
+length_start : (b : Bool) (bs : Blocks) (k : ℕ) {after : Blocks} →
+    bind (if b then without_block bs k (slice_get bs k) else Err BadFree) (λ cs. Ok (map given_back cs)) ≡ Ok after →
+    length after ≡ length bs
+length_start true bs k h = length_without bs k (slice_get bs k) h
+length_start false bs k h = absurd (cc h)
+
+-- what is freed keeps its number
+length_free : (bs : Blocks) (v : Value) {after : Blocks} → free_cell bs (cell_of v) ≡ Ok after →
+    length after ≡ length bs
+length_free bs (Word w) h = absurd (cc h)
+length_free bs Null {after} h = let same : bs ≡ after = cc h in ap length (sym same)
+length_free bs (Ptr p) h = length_start (p.index == 0) bs p.block h
+
+numbers_freed : (comp : ℕ) (v : Value) {memory after : Memory} {turns : ℕ} →
+    free_cell (memory comp) (cell_of v) ≡ Ok (after comp) → after ≡ with_blocks comp (after comp) memory →
+    NumbersSuffice memory turns → NumbersSuffice after turns
+numbers_freed comp v {memory} {after} {turns} is others h =
+    subst (λ m. NumbersSuffice m turns) (sym others) (numbers_with comp (after comp)
+    (omega (arith, length_free (memory comp) v is, h.numbers comp)) h)
+
+-- the same, whether something was freed or not
+pub numbers_released : {A : Type 0} (result : Result A Cause) (comp : ℕ) (v : Value)
+    {memory after : Memory} {turns : ℕ} →
+    MatchResult result (λ _. free_cell (memory comp) (cell_of v) ≡ Ok (after comp))
+    (λ cause. free_cell (memory comp) (cell_of v) ≡ Err cause) →
+    after ≡ with_blocks comp (after comp) memory → OnErr result (after ≡ memory) →
+    NumbersSuffice memory turns → NumbersSuffice after turns
+numbers_released (Ok x) comp v is others same h = numbers_freed comp v is others h
+numbers_released (Err cause) comp v {turns} is others same h = subst (λ m. NumbersSuffice m turns) (sym same) h
 
 module _ (comp : ℕ) (sizes : List ℕ) (args : List Value) {memory now : Memory}
     (is : now ≡ with_sizes comp sizes args memory) where

@@ -13,8 +13,8 @@ pub use Rattle.sc_run.specs.Comes.{CameTo, Comes, with_exit}
 pub use Rattle.sc_run.specs.Entering.{Begun, back_from, block_for, body_acts, emitted_call, entry_from, with_variables}
 pub use Rattle.sc_run.specs.Finding.{EntryAt, FoundAt}
 pub use Rattle.sc_run.specs.Resume.{Advances, EndsAs, Standing, Stands, Steps, back_to, block_acts, bodies, calls_in}
-pub use Rattle.sc_run.specs.Resume.{closes, denotations, does_now, exit_of, function_in, loop_acts, next_acts}
-pub use Rattle.sc_run.specs.Resume.{part_acts, result_goes, resume, returned, stmt_acts, way_in}
+pub use Rattle.sc_run.specs.Resume.{closes, count_way_in, denotations, does_now, exit_of, function_in, loop_acts}
+pub use Rattle.sc_run.specs.Resume.{next_acts, part_acts, result_goes, resume, returned, stmt_acts, way_in}
 pub use Rattle.sc_run.specs.Returning.{back_value, emitted_return, ended_as, left_by, variable_count, word_crossing}
 pub use Rattle.sc_run.specs.Seen.{Seen, kept_by, seen_of}
 pub use Rattle.sc_run.specs.Starting.{cell_with}

@@ -7,6 +7,7 @@ use Rattle.sc_run.specs.Common.{part_does, run_step, run_to, stmt_does, stopped_
 use Rattle.std.specs.Prelude.{◌≡◌, ℕ, suc, ◌≤◌, ◌&&◌, ◌==◌, bytes_eq, List, [], ◌∷◌, reverse, Option, None, Some}
 use Rattle.std.specs.Prelude.{is_some}
 use Rattle.std.specs.Option.{option_copied}
+use Rattle.sc_core.specs.Prelude.{count_ways}
 use Rattle.sc_core.specs.declared.expr.TypedExpr.{TypedExpr}
 use Rattle.sc_core.specs.declared.stmt.TypedSimple.{TypedSimple}
 use Rattle.sc_core.specs.declared.run.SourceRun.{SourceRun}
@@ -32,6 +33,10 @@ exit_of (leaving.Return v) = Return v
 -- an expression of the function that runs
 abbrev pub way_in : Frame → TypedExpr → Ways
 way_in f e = ways c_arith f.scope.structs.now (here_of f.scope) f.scope.params e
+
+-- how many elements are allocated
+abbrev pub count_way_in : Frame → Option TypedExpr → Ways
+count_way_in f count = count_ways c_arith f.scope.structs.now (here_of f.scope) f.scope.params count
 
 module _ (program : ProgramTree) where
   abbrev pub denotations : Denotations

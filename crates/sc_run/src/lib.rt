@@ -3,6 +3,7 @@
 
 mod calls;
 mod globals;
+mod heap;
 mod leaves;
 mod lookups;
 mod machine;

@@ -10,6 +10,7 @@ ghost use Rattle.std.specs.List.{list_all};
 ghost use Rattle.sc_core.specs.declared.cause.Cause.TheVariants.{BadType};
 
 use crate::calls::{enter, hand_back, word_in};
+use crate::heap::{free, malloc};
 use crate::lookups::{are_words, callee_at, entry_callee};
 use crate::machine::{assign, blamed, emit_event};
 use crate::state::Machine;
@@ -257,5 +258,11 @@ pub fn simple<'a>(
             call(program, run, made, to, part.line)
         }
         TypedSimpleKind::Call(made) => call(program, run, made, To::Nowhere, part.line),
+        TypedSimpleKind::Malloc {
+            place,
+            count,
+            cells,
+        } => malloc(program, run, place.get(), count, *cells, part.line),
+        TypedSimpleKind::Free(pointer) => Ok(free(program, run, pointer, part.line)),
     }
 }

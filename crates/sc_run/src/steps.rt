@@ -6,6 +6,7 @@ ghost use Rattle.sc_run.specs.Prelude.{way_in};
 ghost use Rattle.std.specs.Prelude.{◌≤◌, IfOk, Some, length};
 ghost use Rattle.sc_core.specs.declared.value.Want.TheVariants as want;
 
+use crate::heap::{free, malloc};
 use crate::machine::{evaluated, take_turn};
 use crate::plain::{done_first, done_rounds};
 use crate::simple::{assigned, call, simple};
@@ -197,6 +198,12 @@ fn statement<'a>(
             call(program, run, made, to, line)
         }
         TypedStmtKind::Call(made) => { call(program, run, made, To::Nowhere, line) }
+        TypedStmtKind::Malloc {
+            place,
+            count,
+            cells,
+        } => malloc(program, run, place.get(), count, *cells, line),
+        TypedStmtKind::Free(pointer) => Ok(free(program, run, pointer, line)),
         TypedStmtKind::ReturnCall(made) => { call(program, run, made, To::Back, line) }
         TypedStmtKind::ReturnValue(value) => { Ok(returned_value(program, run, value, line)) }
         TypedStmtKind::If {

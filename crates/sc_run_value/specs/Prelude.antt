@@ -6,7 +6,7 @@ pub use Rattle.sc_core.specs.Prelude.{is_unsigned, is_unsigned_op, literal, load
 pub use Rattle.sc_core.specs.Prelude.{number_of, of_bool, on_words, or_cause, ordered, place_at, same_place, store}
 pub use Rattle.sc_core.specs.Prelude.{target_cells, truth, values, variable_at, wanted, ways, with_blocks}
 pub use Rattle.sc_core.specs.declared.value.Value.TheVariants.{Ptr, Word}
-pub use Rattle.sc_blocks.specs.Rows.{cause_of, memory_of}
+pub use Rattle.sc_blocks.specs.Rows.{cause_of, free_cell, memory_of}
 pub use Rattle.sc_run_value.specs.Access.{count_at, typed}
 pub use Rattle.sc_run_value.specs.Evaluation.{decided, joined}
 pub use Rattle.sc_run_value.specs.Where.{here_of}

@@ -1,6 +1,6 @@
 //! Loads and stores of values (C11 6.3.2.1, 6.5.16).
 
-ghost use Rattle.sc_run_value.specs.Prelude.{cause_of, cell_of, load, memory_of, store, typed, with_blocks};
+ghost use Rattle.sc_run_value.specs.Prelude.{cause_of, cell_of, free_cell, load, memory_of, store, typed, with_blocks};
 ghost use Rattle.std.specs.Prelude.{◌≡◌, Ok, Err, OnErr, MatchResult};
 
 use sc_blocks::{BlockFault, Blocks};
@@ -89,5 +89,22 @@ pub fn store(blocks: &mut Blocks, comp: CompId, place: Value, value: Value) -> R
             Ok(()) => Ok(()),
             Err(fault) => Err(cause_of(fault)),
         },
+    }
+}
+
+/// Frees what a pointer is to (C11 7.22.3.3), and changes nothing else.
+pub fn free(blocks: &mut Blocks, comp: CompId, pointer: Value) -> Result<(), Cause>
+    ensures value { MatchResult result
+        (λ _. free_cell (memory_of blocks.old comp) (cell_of pointer) ≡ Ok (memory_of blocks.new comp))
+        (λ cause. free_cell (memory_of blocks.old comp) (cell_of pointer) ≡ Err cause) }
+    ensures others { memory_of blocks.new ≡ with_blocks comp (memory_of blocks.new comp) (memory_of blocks.old) }
+    ensures err { OnErr result (memory_of blocks.new ≡ memory_of blocks.old) }
+{
+    if let Value::Word(_) = pointer {
+        return Err(Cause::BadType);
+    }
+    match blocks.free(comp, cell_of(pointer)) {
+        Ok(()) => Ok(()),
+        Err(_) => Err(Cause::BadFree),
     }
 }

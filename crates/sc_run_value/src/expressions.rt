@@ -217,6 +217,7 @@ pub(crate) fn evaluate_whole(
             wanted(blocks, scope, expr.ty, place, want)
         }
         TypedKind::Address(of) => evaluate_whole(blocks, scope, Want::Place, of.get()),
+        TypedKind::SizeOf { cells } => Ok(Value::Word(4_u32.wrapping_mul(*cells))),
     }
 }
 

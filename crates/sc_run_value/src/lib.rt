@@ -12,7 +12,7 @@ mod quick;
 mod standing;
 mod words;
 
-pub use access::{cell_of, load, store};
+pub use access::{cell_of, free, load, store};
 pub use arguments::Arguments;
 pub use at_once::{holds, is_assigned};
 pub use expressions::{evaluate, evaluate_all, variable_at};

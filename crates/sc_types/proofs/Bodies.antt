@@ -1,14 +1,17 @@
 -- Statements that break no rule of names and of types are well typed.
 use Rattle.sc_types.proofs.Common.{Bool, CallTree, Callable, Callees, ExprTree, Inside, Known, List, None, Option}
-use Rattle.sc_types.proofs.Common.{Scope, SimpleKind, SimpleTree, Some, StmtKind, StmtKind-F, StmtTree, Ty, TypedStmt}
-use Rattle.sc_types.proofs.Common.{TypedStmtKind, TypedStmtKind-F, Visible, [], and_first, and_from, and_rest, ap}
-use Rattle.sc_types.proofs.Common.{arith, assign_call_fits, assign_call_holds, call_fits, call_holds, call_known}
-use Rattle.sc_types.proofs.Common.{concat, expr_known, going_to_some, is_callable, judged, kind_fits, kind_type_lines}
-use Rattle.sc_types.proofs.Common.{kind_typed, list_all, map, option_map, part_fits, part_type_lines, refl, result_goes}
-use Rattle.sc_types.proofs.Common.{return_call_holds, returned_call_fits, roll-TypedStmtKind, simple_fits, simple_holds}
-use Rattle.sc_types.proofs.Common.{simple_known, stmt_fits, stmt_induction, stmt_type_lines, stmt_typed, sym}
-use Rattle.sc_types.proofs.Common.{target_signature, true, typed_call, typed_simple, typed_simple_kind, typed_stmt}
-use Rattle.sc_types.proofs.Common.{typed_value, ℕ, ◌&&◌, ◌∙◌, ◌∷◌, ◌≡◌}
+use Rattle.sc_types.proofs.Common.{Scope, SimpleKind, SimpleTree, Some, StmtKind, StmtKind-F, StmtTree, Ty, TypeName}
+use Rattle.sc_types.proofs.Common.{TypedStmt, TypedStmtKind, TypedStmtKind-F, Visible, [], and_first, and_from}
+use Rattle.sc_types.proofs.Common.{and_rest, ap, arith, assign_call_fits, assign_call_holds, base_known, base_of}
+use Rattle.sc_types.proofs.Common.{call_fits, call_holds, call_known, cells_of, concat, count_fits, element_cells}
+use Rattle.sc_types.proofs.Common.{expr_known, going_to_some, is_callable, is_target, is_type, judged, kind_fits}
+use Rattle.sc_types.proofs.Common.{kind_type_lines, kind_typed, list_all, malloc_fits, malloc_holds, malloc_known, map}
+use Rattle.sc_types.proofs.Common.{most_cells, nat_le, option_map, part_fits, part_type_lines, pointer_to, refl}
+use Rattle.sc_types.proofs.Common.{result_goes, return_call_holds, returned_call_fits, roll-TypedStmtKind, simple_fits}
+use Rattle.sc_types.proofs.Common.{simple_holds, simple_known, stmt_fits, stmt_induction, stmt_type_lines, stmt_typed}
+use Rattle.sc_types.proofs.Common.{subst, sym, target_signature, true, type_of_name, typed_call, typed_count}
+use Rattle.sc_types.proofs.Common.{typed_freed, typed_simple, typed_simple_kind, typed_stmt, typed_value, ℕ, ◌&&◌, ◌∙◌}
+use Rattle.sc_types.proofs.Common.{◌∷◌, ◌≡◌}
 use Rattle.sc_core.proofs.Layers.{layer_of, on_line, stmt_at}
 use Rattle.sc_ast.specs.declared.stmt.SimpleKind.TheVariants as simple
 use Rattle.sc_ast.specs.declared.stmt.StmtKind.TheOpen as tree
@@ -18,11 +21,14 @@ use Rattle.sc_core.specs.declared.stmt.TypedStmtKind.TheOpen as layer
 use Rattle.sc_types_scope.specs.Names as names
 use Rattle.sc_types_elab_expr.specs.Expressions as elab
 use Rattle.sc_types.proofs.Lookups.{rule_holds, no_lines}
+use Rattle.sc_types.proofs.Allocated.{malloc_is_fit}
 use Rattle.sc_core.proofs.Judged.{judged_ty}
 
 module _ (known : Known) (visible : Visible) (callees : Callees) (scope : Scope) (callable : Callable)
     (same : (name : List ℕ) → is_callable known name ≡ true →
-    target_signature callable (callees.target name) ≡ callees.signature name) (result : Option Ty) where
+    target_signature callable (callees.target name) ≡ callees.signature name)
+    (structs : scope.structs ≡ visible.structs) (small : (t : TypeName) → base_known known.tags t.base ≡ true →
+    nat_le (cells_of visible.structs (type_of_name visible.tags t)) most_cells ≡ true) (result : Option Ty) where
   -- Calls.
 
   call_is : (call : CallTree) → call_known known call ≡ true → call_holds visible callees scope result call ≡ true →
@@ -45,6 +51,23 @@ module _ (known : Known) (visible : Visible) (callees : Callees) (scope : Scope)
       and_from _ _ (call_is call in_names (and_first _ _ holds)) (ap (λ signature. result_goes signature t)
       (same call.name (and_first _ _ in_names)) ∙ and_rest (call_holds visible callees scope result call) _ holds)
 
+  -- Allocations.
+
+  malloc_is : (place : ExprTree) (count : Option ExprTree) (of : TypeName) → malloc_known known place count of ≡ true →
+      malloc_holds visible callees scope result place count of ≡ true →
+      malloc_fits scope.structs (judged scope (elab.typed visible place))
+      (option_map (judged scope) (typed_count visible callees count)) (element_cells visible callees of) ≡ true
+  malloc_is place count of in_names holds =
+      subst (λ all. malloc_fits all (judged scope (elab.typed visible place))
+      (option_map (judged scope) (typed_count visible callees count)) (element_cells visible callees of) ≡ true)
+      (sym structs) (malloc_is_fit visible.structs (judged scope (elab.typed visible place))
+      (option_map (judged scope) (typed_count visible callees count)) of.stars (base_of visible.tags of.base)
+      (small of (and_rest _ _ (and_rest _ _ in_names)))
+      (subst (λ t. (is_target (judged scope (elab.typed visible place)) &&
+      (is_type (pointer_to (type_of_name visible.tags of)) t &&
+      count_fits (option_map (judged scope) (typed_count visible callees count)))) ≡ true)
+      (sym (judged_ty scope (elab.typed visible place))) holds))
+
   -- Statements.
 
   simple_is : (s : SimpleKind) → simple_known known s ≡ true → simple_holds visible callees scope result s ≡ true →
@@ -52,6 +75,8 @@ module _ (known : Known) (visible : Visible) (callees : Callees) (scope : Scope)
   simple_is (simple.Assign place value) in_names holds = holds
   simple_is (simple.AssignCall place call) in_names holds = assign_call_is place call in_names holds
   simple_is (simple.Call call) in_names holds = call_is call in_names holds
+  simple_is (simple.Malloc place count of) in_names holds = malloc_is place count of in_names holds
+  simple_is (simple.Free pointer) in_names holds = holds
 
   part_is : (part : Option SimpleTree) → names.part_name_lines known part ≡ [] →
       part_type_lines visible callees scope result part ≡ [] →
@@ -108,6 +133,12 @@ module _ (known : Known) (visible : Visible) (callees : Callees) (scope : Scope)
   by_kind line (tree.Call call) under looping in_names holds =
       fits_at line (layer.Call (typed_call visible callees call)) looping ∙
       call_is call (rule_holds _ line in_names) (rule_holds _ line holds)
+  by_kind line (tree.Malloc place count of) under looping in_names holds =
+      fits_at line (layer.Malloc (elab.typed visible place) (typed_count visible callees count)
+      (element_cells visible callees of)) looping ∙
+      malloc_is place count of (rule_holds _ line in_names) (rule_holds _ line holds)
+  by_kind line (tree.Free pointer) under looping in_names holds =
+      fits_at line (layer.Free (typed_freed visible callees pointer)) looping ∙ rule_holds _ line holds
   by_kind line (tree.If cond first second) under looping in_names holds =
       fits_at line (layer.If (elab.typed visible cond) (map (typed_stmt visible callees result) first)
       (map (typed_stmt visible callees result) second)) looping

@@ -1,10 +1,10 @@
 -- The names that several proofs of this crate cite, passed on from one place. Declares nothing.
 pub use Rattle.std.proofs.Common.{Bool, Err, IfOk, List, None, Ok, OnOk, Option, Result, Some, [], add-one, ap}
 pub use Rattle.std.proofs.Common.{append-nil, append_assoc, ap₂, arith, bytes_eq, codes, cond, drop, drop-cons, false}
-pub use Rattle.std.proofs.Common.{flat_map, get_or, if◌then◌else◌, inl, inr, is_some, le-leb, leb-true, length, lt-ltb}
-pub use Rattle.std.proofs.Common.{ltb-true, map, max, nat_eq, nat_le, nat_lt, not, position, refl, rules, slice_get}
-pub use Rattle.std.proofs.Common.{slice_range, subst, suc, sym, take, true, zero, ℕ, ◌&&◌, ◌*◌, ◌++◌, ◌+◌, ◌-◌, ◌<◌}
-pub use Rattle.std.proofs.Common.{◌==◌, ◌||◌, ◌∙◌, ◌∷◌, ◌≡◌, ◌≤◌, ◌⊎◌}
+pub use Rattle.std.proofs.Common.{eq-eqb, eqb-true, flat_map, get_or, if◌then◌else◌, inl, inr, is_some, le-leb}
+pub use Rattle.std.proofs.Common.{leb-true, length, lt-ltb, ltb-true, map, max, min, nat_eq, nat_le, nat_lt, not}
+pub use Rattle.std.proofs.Common.{position, refl, rules, slice_get, slice_range, subst, suc, sym, take, true, zero, ℕ}
+pub use Rattle.std.proofs.Common.{◌&&◌, ◌*◌, ◌++◌, ◌+◌, ◌-◌, ◌<◌, ◌==◌, ◌||◌, ◌∙◌, ◌∷◌, ◌≡◌, ◌≤◌, ◌⊎◌}
 pub use Rattle.std.proofs.lemmas.Bool.{and_from, cases_Bool, or_from, or_left, or_right}
 pub use Rattle.std.proofs.lemmas.Bool.Decides.{Decides-eqb, nat_tests}
 pub use Rattle.std.proofs.lemmas.List.{drop_all, length-map, map-append, take_more}
@@ -51,7 +51,8 @@ pub use Rattle.sc_types_scope.specs.Prelude.{interfaces_from, interfaces_of, is_
 pub use Rattle.sc_types_scope.specs.Prelude.{line_of_text, main_from, main_name, member_known, names_broken}
 pub use Rattle.sc_types_scope.specs.Prelude.{number_or_zero, offered, offering, offers, param_names, pointed_known}
 pub use Rattle.sc_types_scope.specs.Prelude.{promised, proto_names, proto_of, refused_at, result_known, scalar_of}
-pub use Rattle.sc_types_scope.specs.Prelude.{simple_known, struct_in, struct_names, structs_in, unless, with_lines}
+pub use Rattle.sc_types_scope.specs.Prelude.{malloc_known, simple_known, struct_in, struct_names, structs_in, unless}
+pub use Rattle.sc_types_scope.specs.Prelude.{with_lines}
 unfoldable pub use Rattle.sc_types_scope.specs.Prelude.{noted_all}
 pub use Rattle.sc_types_interfaces.specs.Prelude.{HasFewExports, HasFewParams, IsWithinCounts, agree, agrees_as}
 pub use Rattle.sc_types_interfaces.specs.Prelude.{agrees_there, agrees_with, crosses, decls_from, exports_from}
@@ -62,6 +63,8 @@ pub use Rattle.sc_types_interfaces.specs.Prelude.{is_plain, main_holds, output_n
 pub use Rattle.sc_types_interfaces.specs.Prelude.{same_result, same_type, takes_int, takes_nothing}
 pub use Rattle.sc_core.specs.Prelude.{Callable, IsWellTyped, Scope, Signature, allowed, are_distinct, assign_call_fits}
 pub use Rattle.sc_core.specs.Prelude.{base_cells, base_within, body_fits, call_fits, call_height, callable_in, cells_of}
+pub use Rattle.sc_core.specs.Prelude.{count_fits, count_height, is_target, is_type, malloc_fits, pointer_to, same_ty}
+pub use Rattle.sc_core.specs.Prelude.{target, target_cells}
 pub use Rattle.sc_core.specs.Prelude.{decayed, decl_count, export_fits, export_name, expr_height, function_fits}
 pub use Rattle.sc_core.specs.Prelude.{global_fits, highest, import_fits, import_name, init_height, interface_fits}
 pub use Rattle.sc_core.specs.Prelude.{is_array, is_main, is_pointer, is_well_typed, judged, kind_fits, kind_height}
@@ -84,11 +87,10 @@ pub use Rattle.sc_types_elab_expr.specs.Prelude.{Callees, Found, Visible, beside
 pub use Rattle.sc_types_elab_expr.specs.Prelude.{is_zero_literal, expr_typed}
 pub use Rattle.sc_types_elab_expr.specs.Prelude.{target_or, typed, variable_typed}
 pub use Rattle.sc_types_elab_stmt.specs.Prelude.{assign_call_holds, call_holds, going_to_all, going_to_some}
-pub use Rattle.sc_types_elab_stmt.specs.Prelude.{kind_type_lines}
-pub use Rattle.sc_types_elab_stmt.specs.Prelude.{kind_typed, part_type_lines, return_call_holds, simple_holds}
-pub use Rattle.sc_types_elab_stmt.specs.Prelude.{stmt_type_lines}
-pub use Rattle.sc_types_elab_stmt.specs.Prelude.{stmt_typed, typed_call, typed_simple, typed_simple_kind, typed_stmt}
-pub use Rattle.sc_types_elab_stmt.specs.Prelude.{typed_value}
+pub use Rattle.sc_types_elab_stmt.specs.Prelude.{kind_type_lines, kind_typed, part_type_lines, return_call_holds}
+pub use Rattle.sc_types_elab_stmt.specs.Prelude.{simple_holds, element_cells, int_pointer, malloc_holds}
+pub use Rattle.sc_types_elab_stmt.specs.Prelude.{stmt_type_lines, stmt_typed, typed_call, typed_count, typed_freed}
+pub use Rattle.sc_types_elab_stmt.specs.Prelude.{typed_simple, typed_simple_kind, typed_stmt, typed_value}
 pub use Rattle.sc_types_elab.specs.Prelude.{base_of, callees_of, cells_from, decl_type_lines, end_of_member, head_named}
 pub use Rattle.sc_types_elab.specs.Prelude.{import_named, import_target, imported_target, init_holds, init_words}
 pub use Rattle.sc_types_elab.specs.Prelude.{is_sized, local_holds, typed_locals_from, members_from, or_first, param_ty}
@@ -102,6 +104,6 @@ pub use Rattle.sc_types.specs.Prelude.{Accepts, AreLow, AreStarts, Fails, FailsR
 pub use Rattle.sc_types.specs.Prelude.{IsTyped, call_nodes, counts_broken, decls_nodes, expr_nodes, expr_step}
 pub use Rattle.sc_types.specs.Prelude.{first_start, function_count_lines, function_nodes, global_count_lines}
 pub use Rattle.sc_types.specs.Prelude.{head_lines}
-pub use Rattle.sc_types.specs.Prelude.{init_nodes, is_small, line_beyond, count_lines_from, local_lines, local_nodes}
+pub use Rattle.sc_types.specs.Prelude.{is_small, line_beyond, count_lines_from, local_lines, local_nodes, option_nodes}
 pub use Rattle.sc_types.specs.Prelude.{part_nodes, parts_from, section_count_lines, simple_nodes, source_of, start_of}
 pub use Rattle.sc_types.specs.Prelude.{stmt_nodes, stmts_nodes, structs_from, type_in}

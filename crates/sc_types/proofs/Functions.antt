@@ -212,19 +212,20 @@ module _ (section : SectionTree) where
   module _ (callees : Callees) (callable : Callable) (same : (before : List Decl) (tree : FunctionTree) (name : Text) →
       is_callable (known_in (names.declared section before) tree) name ≡ true →
       target_signature callable (callees.target name) ≡ callees.signature name) where
-    body_is : (before : List Decl) (tree : FunctionTree) (body : List StmtTree) →
-        names.body_lines (known_in (names.declared section before) tree) body ≡ [] →
+    body_is : (before : List Decl) (tree : FunctionTree) → ((t : TypeName) →
+        base_known (struct_names before) t.base ≡ true → is_small section (type_of_name (tags section) t) ≡ true) →
+        (body : List StmtTree) → names.body_lines (known_in (names.declared section before) tree) body ≡ [] →
         concat (map (stmt_type_lines (visible_of section tree) callees (scope_in section tree)
         (result_of section tree)) body) ≡ [] → body_fits (scope_in section tree) callable (result_of section tree)
         (map (typed_stmt (visible_of section tree) callees (result_of section tree)) body) ≡ true
-    body_is before tree [] known holds = refl
-    body_is before tree (s ∷ body) known holds = grind (
+    body_is before tree small [] known holds = refl
+    body_is before tree small (s ∷ body) known holds = grind (
       arith,
       no_lines,
       fits (known_in (names.declared section before)
-          tree) (visible_of section tree) callees (scope_in section tree) callable (same before tree)
+          tree) (visible_of section tree) callees (scope_in section tree) callable (same before tree) refl small
           (result_of section tree) s false,
-      body_is before tree body,
+      body_is before tree small body,
     )
 
     body_low : (tree : FunctionTree) (body : List StmtTree) → nat_le (surface.stmts_height body) 256 ≡ true →
@@ -277,7 +278,8 @@ module _ (section : SectionTree) where
         rule_holds _ _ count in
         let locals = locals_are callees before decls whole (global_names before) (param_names tree) tree 0 tree.locals
         (prefix_empty _ _ holds) known.locals (back_empty _ _ sizes) (low_left _ _ 256 low) in
-        let body = body_is before tree tree.body known.body (back_empty _ _ holds) in
+        let body = body_is before tree (λ t in_names. and_rest _ _ (named_fits small t
+        (known_whole before decls whole t.base in_names))) tree.body known.body (back_empty _ _ holds) in
         cc (
           scope_is callees tree,
           params_passed small tree.head.params (params_whole before decls whole

@@ -1,4 +1,5 @@
 pub mod Common
+mod Allocated
 mod Bodies
 mod Callees
 pub mod Calls

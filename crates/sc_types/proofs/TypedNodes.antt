@@ -2,15 +2,15 @@
 use Rattle.sc_types.proofs.Common.{Bool, CallTree, Callees, Each, ExprTree, ExprTree-F, Found, FunctionTree, Inside}
 use Rattle.sc_types.proofs.Common.{List, LocalTree, None, Option, SectionTree, SimpleKind, SimpleTree, Some, StmtKind}
 use Rattle.sc_types.proofs.Common.{StmtKind-F, StmtTree, Ty, TypedStmt, TypedStmtKind, TypedStmtKind-F, Under, Visible}
-use Rattle.sc_types.proofs.Common.{[], ap, ap₂, arith, beside, call_height, call_nodes, cond, decayed, decls_nodes}
-use Rattle.sc_types.proofs.Common.{expr_height, expr_induction, expr_nodes, expr_step, false, variable_named}
-use Rattle.sc_types.proofs.Common.{function_nodes}
-use Rattle.sc_types.proofs.Common.{going_to, going_to_all, going_to_some, highest, if◌then◌else◌, init_nodes}
-use Rattle.sc_types.proofs.Common.{is_pointer, is_zero_literal, kind_height, kind_typed as typed_kind_step, length-map}
-use Rattle.sc_types.proofs.Common.{local_nodes, map, map-ExprTree, max, nodes, option_map, part_height, part_nodes}
-use Rattle.sc_types.proofs.Common.{refl, result_of, roll-TypedStmtKind, rules, simple_height, simple_nodes, expr_typed}
-use Rattle.sc_types.proofs.Common.{stmt_height, stmt_induction, stmt_nodes, stmt_typed as typed_stmt_step, suc, sym}
-use Rattle.sc_types.proofs.Common.{term_height, total, true, typed, typed_call, typed_function, typed_init}
+use Rattle.sc_types.proofs.Common.{[], ap, ap₂, arith, beside, call_height, call_nodes, cond, count_height, decayed}
+use Rattle.sc_types.proofs.Common.{decls_nodes, expr_height, expr_induction, expr_nodes, expr_step, false}
+use Rattle.sc_types.proofs.Common.{variable_named, function_nodes, going_to, going_to_all, going_to_some, highest}
+use Rattle.sc_types.proofs.Common.{if◌then◌else◌, int_pointer, is_pointer, is_zero_literal, kind_height}
+use Rattle.sc_types.proofs.Common.{kind_typed as typed_kind_step, length-map, local_nodes, map, map-ExprTree, max}
+use Rattle.sc_types.proofs.Common.{nodes, option_map, option_nodes, part_height, part_nodes, refl, result_of}
+use Rattle.sc_types.proofs.Common.{roll-TypedStmtKind, rules, simple_height, simple_nodes, expr_typed, stmt_height}
+use Rattle.sc_types.proofs.Common.{stmt_induction, stmt_nodes, stmt_typed as typed_stmt_step, suc, sym, term_height}
+use Rattle.sc_types.proofs.Common.{total, true, typed, typed_call, typed_count, typed_freed, typed_function, typed_init}
 use Rattle.sc_types.proofs.Common.{typed_locals, typed_section, typed_simple, typed_simple_kind, typed_stmt}
 use Rattle.sc_types.proofs.Common.{typed_value, variable_typed, visible_in, visible_of, ℕ, ◌&&◌, ◌+◌, ◌∙◌, ◌∷◌, ◌≡◌}
 use Rattle.sc_types.specs.Prelude.{kind_step, stmt_step}
@@ -91,6 +91,7 @@ module _ (visible : Visible) where
   step-nodes (tree.Arrow a name) h = node-at _ (open_term.Arrow _ _) ∙ ap suc h
   step-nodes (tree.Deref a) h = node-at _ (open_term.Deref _) ∙ ap suc h
   step-nodes (tree.Address a) h = node-at _ (open_term.Address _) ∙ ap suc h
+  step-nodes (tree.SizeOf of) h = node-at _ (open_term.SizeOf _)
 
   pub typed-nodes : (e : ExprTree) → core.expr_nodes (typed visible e) ≡ expr_nodes e
   typed-nodes = expr_induction AsTree
@@ -104,11 +105,20 @@ module _ (visible : Visible) where
         expr_nodes value
     value-nodes place value = going (typed visible place).ty (typed visible value) ∙ typed-nodes value
 
+    count-nodes : (count : Option ExprTree) → core.count_nodes (typed_count visible callees count) ≡ option_nodes count
+    count-nodes None = refl
+    count-nodes (Some e) = typed-nodes e
+
+    freed-nodes : (pointer : ExprTree) → core.expr_nodes (typed_freed visible callees pointer) ≡ expr_nodes pointer
+    freed-nodes pointer = going int_pointer (typed visible pointer) ∙ typed-nodes pointer
+
     simple-nodes : (s : SimpleKind) → core.simple_nodes (typed_simple_kind visible callees s) ≡ simple_nodes s
     simple-nodes (simple_tree.Assign place value) = ap₂ (λ a b. suc (a + b)) (typed-nodes place)
         (value-nodes place value)
     simple-nodes (simple_tree.AssignCall place call) = ap₂ (λ a b. suc (a + b)) (typed-nodes place) (call-nodes call)
     simple-nodes (simple_tree.Call call) = ap suc (call-nodes call)
+    simple-nodes (simple_tree.Malloc place count of) = ap₂ (λ a b. suc (a + b)) (typed-nodes place) (count-nodes count)
+    simple-nodes (simple_tree.Free pointer) = ap suc (freed-nodes pointer)
 
     part-nodes : (part : Option SimpleTree) → core.part_nodes (option_map (typed_simple visible callees) part) ≡
         part_nodes part
@@ -143,6 +153,10 @@ module _ (visible : Visible) (callees : Callees) (result : Option Ty) where
   layer-nodes line (layer.AssignCall place call) h = stmt-node-at line (open_kind.AssignCall _ _)
       ∙ ap₂ (λ a b. suc (a + b)) (typed-nodes visible place) (call-nodes visible callees call)
   layer-nodes line (layer.Call call) h = stmt-node-at line (open_kind.Call _) ∙ ap suc (call-nodes visible callees call)
+  layer-nodes line (layer.Malloc place count of) h = stmt-node-at line (open_kind.Malloc _ _ _)
+      ∙ ap₂ (λ a b. suc (a + b)) (typed-nodes visible place) (count-nodes visible callees count)
+  layer-nodes line (layer.Free pointer) h =
+      stmt-node-at line (open_kind.Free _) ∙ ap suc (freed-nodes visible callees pointer)
   layer-nodes line (layer.If c first second) h = stmt-node-at line (open_kind.If _ _ _)
       ∙ (λ i. suc (typed-nodes visible c i + each-nodes first h.0 i + each-nodes second h.1 i))
   layer-nodes line (layer.While c body) h = stmt-node-at line (open_kind.While _ _)
@@ -167,7 +181,7 @@ module _ (visible : Visible) (callees : Callees) (result : Option Ty) where
 
 module _ (section : SectionTree) where
   init-nodes : (tree : FunctionTree) (place : ℕ) (t : Ty) (init : Option ExprTree) →
-      core.init_nodes (typed_init section tree place t init) ≡ init_nodes init
+      core.init_nodes (typed_init section tree place t init) ≡ option_nodes init
   init-nodes tree place t None = refl
   init-nodes tree place t (Some init) = going t _ ∙ typed-nodes (visible_in section tree (suc place)) init
 
@@ -242,6 +256,7 @@ module _ (visible : Visible) where
   by_term (tree.Arrow e name) under = height_at _ (open_term.Arrow _ _) ∙ ap suc under ∙ one_more _
   by_term (tree.Deref e) under = height_at _ (open_term.Deref _) ∙ ap suc under ∙ one_more _
   by_term (tree.Address e) under = height_at _ (open_term.Address _) ∙ ap suc under ∙ one_more _
+  by_term (tree.SizeOf of) under = height_at _ (open_term.SizeOf _)
 
   pub typed_height : (e : ExprTree) → Same e
   typed_height = expr_induction Same
@@ -262,10 +277,19 @@ module _ (visible : Visible) where
         surface.expr_height value
     value_is place value = going_height _ _ ∙ typed_height value
 
+    count_is : (count : Option ExprTree) → count_height (typed_count visible callees count) ≡ surface.count_height count
+    count_is None = refl
+    count_is (Some e) = typed_height e
+
+    freed_is : (pointer : ExprTree) → expr_height (typed_freed visible callees pointer) ≡ surface.expr_height pointer
+    freed_is pointer = going_height int_pointer (typed visible pointer) ∙ typed_height pointer
+
     simple_is : (s : SimpleKind) → simple_height (typed_simple_kind visible callees s) ≡ surface.simple_kind_height s
     simple_is (simple_tree.Assign place value) = λ i. max (typed_height place i) (value_is place value i)
     simple_is (simple_tree.AssignCall place call) = λ i. max (typed_height place i) (call_is call i)
     simple_is (simple_tree.Call call) = call_is call
+    simple_is (simple_tree.Malloc place count of) = λ i. max (typed_height place i) (count_is count i)
+    simple_is (simple_tree.Free pointer) = freed_is pointer
 
     part_is : (part : Option SimpleTree) → part_height (option_map (typed_simple visible callees) part) ≡
         surface.option_height part
@@ -309,6 +333,9 @@ module _ (visible : Visible) where
       by_kind line (layer.AssignCall place call) inside =
           stmt_of line (open_kind.AssignCall _ _) ∙ (λ i. suc (max (typed_height place i) (call_is call i)))
       by_kind line (layer.Call call) inside = stmt_of line (open_kind.Call _) ∙ ap suc (call_is call)
+      by_kind line (layer.Malloc place count of) inside =
+          stmt_of line (open_kind.Malloc _ _ _) ∙ (λ i. suc (max (typed_height place i) (count_is count i)))
+      by_kind line (layer.Free pointer) inside = stmt_of line (open_kind.Free _) ∙ ap suc (freed_is pointer)
       by_kind line (layer.If cond first second) inside = stmt_of line (open_kind.If _ _ _)
           ∙ (λ i. suc (max (typed_height cond i) (max (all_heights first inside.0 i) (all_heights second inside.1 i))))
       by_kind line (layer.While cond body) inside =

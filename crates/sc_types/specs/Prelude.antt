@@ -12,6 +12,6 @@ pub use Rattle.sc_types.specs.Counts.{section_nodes}
 pub use Rattle.sc_types.specs.Counts.{structs_from, type_in}
 pub use Rattle.sc_types.specs.Source.{IsSource, IsSplitInto, SourceParts}
 pub use Rattle.sc_types.specs.Starts.{AreStarts, IsKept, first_start, parts_from, source_of, start_of}
-pub use Rattle.sc_types.specs.TreeNodes.{call_nodes, decls_nodes, expr_nodes, expr_step, function_nodes, init_nodes}
-pub use Rattle.sc_types.specs.TreeNodes.{kind_nodes, kind_step, local_nodes, part_nodes, simple_nodes, stmt_nodes}
+pub use Rattle.sc_types.specs.TreeNodes.{call_nodes, decls_nodes, expr_nodes, expr_step, function_nodes, kind_nodes}
+pub use Rattle.sc_types.specs.TreeNodes.{kind_step, local_nodes, option_nodes, part_nodes, simple_nodes, stmt_nodes}
 pub use Rattle.sc_types.specs.TreeNodes.{stmt_step, stmts_nodes}

@@ -23,9 +23,15 @@ expr_step (term.Member base name) = suc base
 expr_step (term.Arrow base name) = suc base
 expr_step (term.Deref of) = suc of
 expr_step (term.Address of) = suc of
+expr_step (term.SizeOf of) = 1
 
 abbrev pub expr_nodes : ExprTree → ℕ
 expr_nodes = fold-ExprTree ℕ expr_step
+
+-- 0 where it is absent
+abbrev pub option_nodes : Option ExprTree → ℕ
+option_nodes None = 0
+option_nodes (Some e) = expr_nodes e
 
 -- a call counts by its arguments
 abbrev pub call_nodes : CallTree → ℕ
@@ -35,6 +41,8 @@ abbrev pub simple_nodes : SimpleKind → ℕ
 simple_nodes (simple.Assign place value) = suc (expr_nodes place + expr_nodes value)
 simple_nodes (simple.AssignCall place call) = suc (expr_nodes place + call_nodes call)
 simple_nodes (simple.Call call) = suc (call_nodes call)
+simple_nodes (simple.Malloc place count of) = suc (expr_nodes place + option_nodes count)
+simple_nodes (simple.Free pointer) = suc (expr_nodes pointer)
 
 abbrev pub part_nodes : Option SimpleTree → ℕ
 part_nodes None = 0
@@ -45,6 +53,8 @@ kind_step layer.Empty = 1
 kind_step (layer.Assign place value) = suc (expr_nodes place + expr_nodes value)
 kind_step (layer.AssignCall place call) = suc (expr_nodes place + call_nodes call)
 kind_step (layer.Call call) = suc (call_nodes call)
+kind_step (layer.Malloc place count of) = suc (expr_nodes place + option_nodes count)
+kind_step (layer.Free pointer) = suc (expr_nodes pointer)
 kind_step (layer.If cond first second) = suc (expr_nodes cond + total first + total second)
 kind_step (layer.While cond body) = suc (expr_nodes cond + total body)
 kind_step (layer.For first cond next body) = suc (part_nodes first + expr_nodes cond + part_nodes next + total body)
@@ -66,12 +76,8 @@ kind_nodes = fold-StmtKind ℕ ℕ kind_step stmt_step
 abbrev pub stmts_nodes : List StmtTree → ℕ
 stmts_nodes stmts = total (map stmt_nodes stmts)
 
-abbrev pub init_nodes : Option ExprTree → ℕ
-init_nodes None = 0
-init_nodes (Some init) = expr_nodes init
-
 abbrev pub local_nodes : LocalTree → ℕ
-local_nodes local = suc (init_nodes local.init)
+local_nodes local = suc (option_nodes local.init)
 
 abbrev pub function_nodes : FunctionTree → ℕ
 function_nodes tree =

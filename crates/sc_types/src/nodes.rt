@@ -1,7 +1,7 @@
 //! How many nodes trees have. Numbers stop at 4294967295.
 
-ghost use Rattle.sc_types.specs.Prelude.{call_nodes, decls_nodes, expr_nodes, function_nodes, init_nodes, kind_nodes};
-ghost use Rattle.sc_types.specs.Prelude.{local_nodes, part_nodes, simple_nodes, stmt_nodes, stmts_nodes, total};
+ghost use Rattle.sc_types.specs.Prelude.{call_nodes, decls_nodes, expr_nodes, function_nodes, kind_nodes, local_nodes};
+ghost use Rattle.sc_types.specs.Prelude.{option_nodes, part_nodes, simple_nodes, stmt_nodes, stmts_nodes, total};
 ghost use Rattle.sc_ast.specs.Prelude.{limited};
 ghost use Rattle.std.specs.Prelude.{◌≡◌, ◌+◌, suc, [], ◌∷◌, map};
 
@@ -40,6 +40,16 @@ fn expr_nodes(expr: &ExprTree) -> u32
         ExprTree::Arrow { base, .. } => over(expr_nodes(base.get())),
         ExprTree::Deref(of) => over(expr_nodes(of.get())),
         ExprTree::Address(of) => over(expr_nodes(of.get())),
+        ExprTree::SizeOf(_) => 1,
+    }
+}
+
+fn option_nodes(expr: &Option<ExprTree>) -> u32
+    ensures { result ≡ limited (option_nodes expr.now) }
+{
+    match expr {
+        None => 0,
+        Some(expr) => expr_nodes(expr),
     }
 }
 
@@ -64,6 +74,10 @@ fn simple_nodes(kind: &SimpleKind) -> u32
             over(both(expr_nodes(place.get()), call_nodes(call)))
         }
         SimpleKind::Call(call) => over(call_nodes(call)),
+        SimpleKind::Malloc { place, count, .. } => {
+            over(both(expr_nodes(place.get()), option_nodes(count)))
+        }
+        SimpleKind::Free(pointer) => over(expr_nodes(pointer)),
     }
 }
 
@@ -104,6 +118,10 @@ fn kind_nodes(kind: &StmtKind) -> u32
             over(both(expr_nodes(place.get()), call_nodes(call)))
         }
         StmtKind::Call(call) => over(call_nodes(call)),
+        StmtKind::Malloc { place, count, .. } => {
+            over(both(expr_nodes(place.get()), option_nodes(count)))
+        }
+        StmtKind::Free(pointer) => over(expr_nodes(pointer)),
         StmtKind::If {
             cond,
             then_part,
@@ -131,19 +149,10 @@ fn kind_nodes(kind: &StmtKind) -> u32
     }
 }
 
-fn init_nodes(init: &Option<ExprTree>) -> u32
-    ensures { result ≡ limited (init_nodes init.now) }
-{
-    match init {
-        None => 0,
-        Some(init) => expr_nodes(init),
-    }
-}
-
 fn local_nodes(local: &LocalTree) -> u32
     ensures { result ≡ limited (local_nodes local.now) }
 {
-    over(init_nodes(&local.init))
+    over(option_nodes(&local.init))
 }
 
 fn locals_nodes(locals: &LocalTrees) -> u32

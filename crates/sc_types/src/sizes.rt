@@ -3,18 +3,15 @@
 ghost use Rattle.std.specs.Prelude.{◌≡◌, IfOk};
 ghost use Rattle.sc_core.specs.declared.ty.Ty.TheVariants as ty;
 ghost use Rattle.sc_types_scope.specs.Declarations.{struct_names};
-ghost use Rattle.sc_types_elab.specs.Sections.{type_of_name};
+ghost use Rattle.sc_types_elab.specs.Prelude.{type_of_name};
 ghost use Rattle.sc_types.specs.Counts.{is_small, type_in};
 
 use sc_ast::{SectionTree, TypeName, TypeTree};
 use sc_base::{NameList, OutOfMemory};
 use sc_core::Ty;
-use sc_types_elab::{Structs, build_structs, build_tags, type_of, type_of_name};
+use sc_types_elab::{MOST_CELLS, Structs, build_structs, build_tags, type_of, type_of_name};
 use std::alloc::Global;
 use std::marker::Model;
-
-/// The most cells that a variable or a struct may have.
-const MOST_CELLS: u32 = 1_048_576;
 
 /// The structs of a section, by their tags. Contracts see the section.
 #[derive(Drop)]

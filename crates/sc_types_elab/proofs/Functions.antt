@@ -14,6 +14,7 @@ module _ (scope : SectionScope) (section : SectionTree) (stands : Stands scope s
   pub seen : (count : ℕ) (function : FunctionScope) → StandsIn section tree count function →
       visible scope function ≡ visible_in section tree count
   seen count function within = λ j. record {
+    tags = stands.tags j;
     structs = stands.structs j;
     globals = stands.globals j;
     params = within.params j;

@@ -9,7 +9,7 @@ pub use Rattle.sc_ast.specs.declared.section.LocalTree.{LocalTree}
 pub use Rattle.sc_ast.specs.declared.section.SectionTree.{SectionTree}
 pub use Rattle.sc_ast.specs.declared.section.StructTree.{StructTree}
 pub use Rattle.sc_types_scope.specs.Prelude.{function_named, function_names, function_decls, globals_in, heads_in}
-pub use Rattle.sc_types_scope.specs.Prelude.{import_of, interfaces_of, line_of_text, number_or_zero, struct_names}
+pub use Rattle.sc_types_scope.specs.Prelude.{import_of, interfaces_of, line_of_text, struct_names}
 pub use Rattle.sc_types_scope.specs.Prelude.{structs_in, unless}
 pub use Rattle.sc_core.specs.Prelude.{Scope, Signature, cells_of, init_fits, starred}
 pub use Rattle.sc_core.specs.declared.section.TypedLocal.{TypedLocal}

@@ -3,10 +3,10 @@ use Rattle.sc_types_elab.specs.Common.{Decl, FunctionTree, HeadTree, Import, Imp
 use Rattle.sc_types_elab.specs.Common.{Signature, StructTree, TypedLocal, cells_of, function_named, function_names}
 use Rattle.sc_types_elab.specs.Common.{function_decls, globals_in, head_of, heads_in, import_of, init_fits}
 use Rattle.sc_types_elab.specs.Common.{interfaces_of}
-use Rattle.sc_types_elab.specs.Common.{limited, line_of_text, number_or_zero, starred, stmt_type_lines, struct_names}
+use Rattle.sc_types_elab.specs.Common.{limited, line_of_text, starred, stmt_type_lines, struct_names}
 use Rattle.sc_types_elab.specs.Common.{structs_in, typed_stmt, unless}
 use Rattle.sc_base.specs.Prelude.{number_by_name}
-use Rattle.sc_types_elab_expr.specs.Prelude.{Callees, Visible, going_to, target_or, typed}
+use Rattle.sc_types_elab_expr.specs.Prelude.{Callees, Visible, base_of, going_to, target_or, type_of_name, typed}
 use Rattle.sc_core.specs.declared.expr.CallTarget.{CallTarget}
 use Rattle.sc_core.specs.declared.expr.CallTarget.TheVariants.{Cross, Input, Output, Own}
 use Rattle.sc_ast.specs.declared.expr.ExprTree.{ExprTree}
@@ -20,10 +20,7 @@ use Rattle.std.specs.Prelude.{List, [], ◌∷◌, ◌++◌, length, map, take, 
 use Rattle.std.specs.List.{concat, list_all}
 use Rattle.std.specs.Option.{option_map, option_map_or}
 use Rattle.sc_event.specs.declared.interface.Import.TheVariants as import
-use Rattle.sc_ast.specs.declared.types.BaseTree.{BaseTree}
-use Rattle.sc_ast.specs.declared.types.BaseTree.TheVariants as base_tree
 use Rattle.sc_ast.specs.declared.types.TypeTree.{TypeTree}
-use Rattle.sc_ast.specs.declared.types.TypeName.{TypeName}
 use Rattle.sc_ast.specs.declared.section.MemberTree.{MemberTree}
 use Rattle.sc_ast.specs.declared.section.ConstTree.{ConstTree}
 use Rattle.sc_ast.specs.declared.section.InitTree.{InitTree}
@@ -40,28 +37,19 @@ use Rattle.sc_core.specs.declared.section.TypedFunction.{TypedFunction}
 use Rattle.sc_core.specs.declared.section.TypedSection.{TypedSection}
 use Rattle.sc_core.specs.declared.program.ProgramTree.{ProgramTree}
 
--- Types. A struct is known by its tag's place among the section's structs.
+-- Types.
 
 -- an array has an element (C11 6.7.6.2p1)
 abbrev pub is_sized : TypeTree → Bool
 is_sized t = option_map_or (λ elements. nat_le 1 elements) t.length true
 
 module _ (tags : List (List ℕ)) where
-  abbrev pub base_of : BaseTree → BaseTy
-  base_of base_tree.Int = base.Int
-  base_of base_tree.Unsigned = base.Unsigned
-  base_of (base_tree.Struct tag) = base.Struct (number_or_zero (number_by_name tags tag))
-
-  -- the type of a parameter or a result
-  abbrev pub type_of_name : TypeName → Ty
-  type_of_name t = starred t.stars (base_of t.base)
-
   abbrev pub type_with : Option ℕ → ℕ → BaseTy → Ty
   type_with None stars b = starred stars b
   type_with (Some elements) stars b = ty.Array stars b elements
 
   abbrev pub type_of : TypeTree → Ty
-  type_of t = type_with t.length t.stars (base_of t.base)
+  type_of t = type_with t.length t.stars (base_of tags t.base)
 
   -- Structs: members stand one after another (C11 6.7.2.1p15).
 
@@ -186,6 +174,7 @@ module _ (section : SectionTree) where
   -- what is visible in a function, with its first `count` locals
   abbrev pub visible_in : FunctionTree → (locals : ℕ) → Visible
   visible_in tree count = record {
+    tags = tags;
     structs = structs;
     globals = map (global_variable tags) (globals_in section.decls);
     params = map (typed_param tags) tree.head.params;

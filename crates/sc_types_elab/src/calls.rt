@@ -6,12 +6,12 @@ ghost use Rattle.sc_types_elab.specs.Prelude.{head_name, head_of, heads_in, impo
 ghost use Rattle.sc_types_elab.specs.Prelude.{param_ty, signature_by};
 ghost use Rattle.std.specs.Prelude.{◌≡◌, ◌++◌, ◌∷◌, [], map, IfOk, OnOk};
 
-use crate::tree_ty::{type_of_name, type_of_result};
+use crate::tree_ty::type_of_result;
 use sc_ast::{Decl, FunctionHead, FunctionParam, HeadTree, ImportLine, ParamTree, SectionTree};
 use sc_base::{Name, NameList, OutOfMemory};
 use sc_core::{CallTarget, Ty};
 use sc_event::Import;
-use sc_types_elab_expr::{Callees, Signature};
+use sc_types_elab_expr::{Callees, Signature, type_of_name};
 use sqlite_items::Items;
 use std::alloc::Global;
 

@@ -5,11 +5,11 @@ ghost use Rattle.sc_types_elab.specs.Prelude.{type_of_name, typed_function, type
 ghost use Rattle.std.specs.Prelude.{◌≡◌, ◌++◌, ◌∷◌, [], length, map, IfOk};
 ghost use Rattle.std.specs.Option.{option_map};
 
-use crate::tree_ty::{type_of, type_of_name, type_of_result};
+use crate::tree_ty::{type_of, type_of_result};
 use sc_ast::{ExprTree, FunctionParam, FunctionTree, LocalTree, SectionTree};
 use sc_base::{NameList, OutOfMemory};
 use sc_core::{Ty, TypedExpr, TypedFunction, TypedLocal, TypedLocals, TypedParam};
-use sc_types_elab_expr::{FunctionScope, SectionScope, Variables};
+use sc_types_elab_expr::{FunctionScope, SectionScope, Variables, type_of_name};
 use sc_types_elab_stmt::{build_stmts, build_value};
 use sqlite_items::Items;
 use std::alloc::Global;

@@ -13,7 +13,7 @@ mod typing;
 
 pub use members::build_structs;
 pub use program::{build_program, into_program};
-pub use sc_types_elab_expr::Structs;
+pub use sc_types_elab_expr::{MOST_CELLS, Structs, type_of_name};
 pub use section::build_tags;
-pub use tree_ty::{type_of, type_of_name};
+pub use tree_ty::type_of;
 pub use typing::broken_type;

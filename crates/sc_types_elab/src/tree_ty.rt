@@ -1,30 +1,13 @@
 //! The types that declarations write.
 
-ghost use Rattle.sc_types_elab.specs.Prelude.{base_of, is_sized, type_of, type_of_name};
+ghost use Rattle.sc_types_elab.specs.Prelude.{is_sized, type_of, type_of_name};
 ghost use Rattle.std.specs.Prelude.{◌≡◌};
 ghost use Rattle.std.specs.Option.{option_map};
 
-use sc_ast::{BaseTree, TypeName, TypeTree};
+use sc_ast::{TypeName, TypeTree};
 use sc_base::NameList;
-use sc_core::{BaseTy, Ty};
-
-// A struct is known by its tag's first place.
-fn base_of(tags: &NameList, base: &BaseTree) -> BaseTy
-    ensures { result ≡ base_of tags.now base.now }
-{
-    match base {
-        BaseTree::Int => BaseTy::Int,
-        BaseTree::Unsigned => BaseTy::Unsigned,
-        BaseTree::Struct(tag) => BaseTy::Struct(tags.number_of(&tag.name()).unwrap_or(0)),
-    }
-}
-
-/// The type of a parameter or a result, where the structs have these tags.
-pub fn type_of_name(tags: &NameList, ty: &TypeName) -> Ty
-    ensures { result ≡ type_of_name tags.now ty.now }
-{
-    Ty::starred(ty.stars, base_of(tags, &ty.base))
-}
+use sc_core::Ty;
+use sc_types_elab_expr::{base_of, type_of_name};
 
 /// The type of a result, which is absent for `void`.
 pub fn type_of_result(tags: &NameList, outcome: &Option<TypeName>) -> Option<Ty>

@@ -3,11 +3,11 @@ use Rattle.sc_types_elab_expr.proofs.Common.{Bool, Err, Found, Global, IfOk, Jud
 use Rattle.sc_types_elab_expr.proofs.Common.{Scope, Some, Suits, Ty, TypedExpr, TypedMember, TypedStruct, Visible, []}
 use Rattle.sc_types_elab_expr.proofs.Common.{ap, arith, binary_fits, bytes_eq, decayed, eq-eqb, false, variable_named}
 use Rattle.sc_types_elab_expr.proofs.Common.{has_member, is_address, is_int, is_pointer, is_some, is_type}
-use Rattle.sc_types_elab_expr.proofs.Common.{is_zero_literal}
-use Rattle.sc_types_elab_expr.proofs.Common.{judged, literal_fits, member_named, member_of, member_offset, member_ty}
-use Rattle.sc_types_elab_expr.proofs.Common.{no_ty, option_and_then, pointer_to, position, refl, same_base, same_ty}
-use Rattle.sc_types_elab_expr.proofs.Common.{slice_get, struct_of, suc, sym, target, term_judged, true, unary_fits}
-use Rattle.sc_types_elab_expr.proofs.Common.{variable_typed, zero, zero_step, ℕ, ◌&&◌, ◌==◌, ◌∙◌, ◌∷◌, ◌≡◌}
+use Rattle.sc_types_elab_expr.proofs.Common.{is_zero_literal, judged, literal_fits, member_named, member_of}
+use Rattle.sc_types_elab_expr.proofs.Common.{member_offset, member_ty, most_cells, nat_le, no_ty, option_and_then}
+use Rattle.sc_types_elab_expr.proofs.Common.{pointer_to, position, refl, same_base, same_ty, slice_get, struct_of, suc}
+use Rattle.sc_types_elab_expr.proofs.Common.{sym, target, term_judged, true, unary_fits, variable_typed, zero}
+use Rattle.sc_types_elab_expr.proofs.Common.{zero_step, ℕ, ◌&&◌, ◌==◌, ◌∙◌, ◌∷◌, ◌≡◌}
 use Rattle.sc_core.specs.declared.ty.BaseTy.{BaseTy}
 use Rattle.sc_core.proofs.Judged.{judged_ty}
 use Rattle.std.specs.List.{list_any}
@@ -20,7 +20,7 @@ use Rattle.sc_core.specs.declared.expr.TypedKind.{TypedKind-F, roll-TypedKind, o
 use Rattle.sc_core.specs.declared.expr.TypedKind.TheOpen as term
 use Rattle.sc_core.specs.declared.expr.TypedKind.TheVariants.{rolls-Literal, rolls-Variable, rolls-Unary, rolls-Binary}
 use Rattle.sc_core.specs.declared.expr.TypedKind.TheVariants.{rolls-Index, rolls-Member, rolls-Arrow, rolls-Deref}
-use Rattle.sc_core.specs.declared.expr.TypedKind.TheVariants.{rolls-Address}
+use Rattle.sc_core.specs.declared.expr.TypedKind.TheVariants.{rolls-Address, rolls-SizeOf}
 use Rattle.sc_core.proofs.Layers.{typed as typed_as}
 use Rattle.sc_core.proofs.Layers as layers
 use Rattle.sc_types_elab_expr.specs.declared.expr.Built.{Built}
@@ -104,6 +104,10 @@ module _ (scope : Scope) where
       (j.place && is_type (pointer_to a.ty) t)) ≡ judged scope (record { ty = t; kind = TypedKind.Address a })
   address_judged a j t is =
       cc (judged_ty scope a, as_kind t (TypedKind.Address a) (term.Address a) (rolls-Address a))
+
+  pub sizeof_judged : (cells : ℕ) → value ty.Unsigned (nat_le cells most_cells) ≡
+      judged scope (record { ty = ty.Unsigned; kind = TypedKind.SizeOf cells })
+  sizeof_judged cells = grind (arith, as_kind ty.Unsigned _ (term.SizeOf cells) (rolls-SizeOf cells))
 
   -- Null pointers.
 

@@ -16,6 +16,7 @@ use Rattle.sc_core.specs.declared.expr.TypedKind
 use Rattle.sc_core.specs.declared.expr.TypedKind.{TypedKind-F}
 use Rattle.sc_core.specs.declared.expr.TypedKind.TheOpen as term
 use Rattle.sc_types_elab_expr.specs.Scopes.{Visible, Found, variable_named, member_named, struct_of}
+use Rattle.sc_types_elab_expr.specs.TypeNames.{cells_under}
 
 -- the type of what isn't there: a pointer without a `*`, which nothing has, so that nothing fits it
 abbrev pub no_ty : Ty
@@ -75,6 +76,10 @@ literal_typed number = record {
   kind = TypedKind.Literal number.value;
 }
 
+-- how many bytes what has so many cells takes (C11 6.5.3.4)
+abbrev pub sizeof_typed : (cells : ℕ) → TypedExpr
+sizeof_typed cells = record { ty = ty.Unsigned; kind = TypedKind.SizeOf cells }
+
 abbrev pub variable_typed : Option Found → TypedExpr
 variable_typed None = record { ty = no_ty; kind = TypedKind.Variable (Global 0) }
 variable_typed (Some f) = record { ty = f.ty; kind = TypedKind.Variable f.variable }
@@ -104,6 +109,7 @@ module _ (visible : Visible) where
       record { ty = member_ty member; kind = TypedKind.Arrow a (member_offset member) }
   expr_typed (tree.Deref e) = record { ty = or_int (target (decayed e.ty)); kind = TypedKind.Deref e }
   expr_typed (tree.Address e) = record { ty = or_int (pointer_to e.ty); kind = TypedKind.Address e }
+  expr_typed (tree.SizeOf of) = sizeof_typed (cells_under visible.tags visible.structs of)
 
   -- an expression with its types
   abbrev pub typed : ExprTree → TypedExpr

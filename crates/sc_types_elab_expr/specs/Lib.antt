@@ -7,3 +7,4 @@ pub mod Judging
 pub mod Placed
 pub mod Scopes
 pub mod Seen
+pub mod TypeNames

@@ -5,8 +5,10 @@ use Rattle.std.specs.Option.{option_map, option_and_then}
 use Rattle.sc_core.specs.declared.ty.Ty.TheVariants as ty
 use Rattle.sc_core.specs.declared.expr.VarRef.{VarRef}
 
--- the structs of the section and, each with its type, the variables that have names at a place of a function, in order
+-- the tags of the section's structs, the structs and, each with its type, the variables that have names at a place of a
+-- function, in order
 pub record Visible : Type 0 where
+  pub tags : List (List ℕ)
   pub structs : List TypedStruct
   pub globals : List TypedParam
   pub params : List TypedParam

@@ -7,6 +7,7 @@ use Rattle.sc_types_elab_expr.specs.Expressions.{typed}
 
 abbrev pub visible : SectionScope → FunctionScope → Visible
 visible section function = record {
+  tags = section.tags;
   structs = section.structs;
   globals = section.globals;
   params = function.params;

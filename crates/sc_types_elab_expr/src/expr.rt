@@ -1,13 +1,14 @@
 ghost use Rattle.sc_types_elab_expr.specs.Prelude.{Suits, beside, binary_typed, expr_in, going_to, is_zero_literal};
 ghost use Rattle.sc_types_elab_expr.specs.Prelude.{literal_typed, member_offset, member_ty, no_ty, or_int, unary_ty};
-ghost use Rattle.sc_types_elab_expr.specs.Prelude.{variable_typed, visible};
+ghost use Rattle.sc_types_elab_expr.specs.Prelude.{sizeof_typed, variable_typed, visible};
 ghost use Rattle.sc_core.specs.Prelude.{Scope, decayed, is_address, judged, pointer_to, target};
 ghost use Rattle.std.specs.Prelude.{◌≡◌, ◌&&◌, true, false, is_some, IfOk};
 ghost use Rattle.sc_core.specs.declared.expr.TypedKind;
 
-use crate::judged::{Judged, binary_fits, literal_fits, unary_fits};
+use crate::judged::{Judged, binary_fits, literal_fits, sizeof_fits, unary_fits};
 use crate::scope::{FunctionScope, SectionScope, found};
 use crate::ty::{binary_ty, unary_ty};
+use crate::type_name::cells_under;
 use crate::variables::Found;
 use sc_ast::{ExprTree, Literal};
 use sc_base::{BinaryOp, OutOfMemory, UnaryOp};
@@ -69,6 +70,7 @@ pub fn build_expr(
             let of = build_expr(alloc, section, function, of.get())?;
             address_built(alloc, of)
         }
+        ExprTree::SizeOf(of) => Ok(sizeof_built(cells_under(&section.tags, &section.structs, of))),
     }
 }
 
@@ -91,6 +93,25 @@ fn literal_built(literal: Literal) -> Built
         judged: Judged {
             ty,
             fits: literal_fits(value, ty),
+            place: false,
+            null: false,
+        },
+    }
+}
+
+#[tactic(auto, using(crate::proofs::Parts::sizeof_judged))]
+fn sizeof_built(cells: u32) -> Built
+    ensures expr { result.expr ≡ sizeof_typed cells }
+    ensures judged { (scope : Scope) → result.judged ≡ judged scope result.expr }
+{
+    Built {
+        expr: TypedExpr {
+            ty: Ty::Unsigned,
+            kind: TypedKind::SizeOf { cells },
+        },
+        judged: Judged {
+            ty: Ty::Unsigned,
+            fits: sizeof_fits(cells),
             place: false,
             null: false,
         },

@@ -1,10 +1,12 @@
 //! The rules of types on expressions, by what is judged of their parts (C11 6.5).
 
-ghost use Rattle.std.specs.Prelude.{◌≡◌, ◌&&◌, IfOk};
+ghost use Rattle.std.specs.Prelude.{◌≡◌, ◌&&◌, nat_le, IfOk};
 ghost use Rattle.sc_core.specs.Typing.{is_int, points, is_address, is_scalar, is_target, both_ints, same_pointers};
 ghost use Rattle.sc_core.specs.Typing.{are_equatable, are_ordered, sum_fits, difference_fits, binary_fits, unary_fits};
 ghost use Rattle.sc_core.specs.Typing.{literal_fits, is_type, goes_into};
+ghost use Rattle.sc_core.specs.Types.{most_cells};
 
+use crate::structs::MOST_CELLS;
 use sc_base::{BinaryOp, OutOfMemory, UnaryOp};
 use sc_core::Ty;
 use std::marker::Model;
@@ -37,8 +39,8 @@ impl Judged {
         self.fits && self.ty.is_integer()
     }
 
-    // Whether it is a pointer.
-    fn points(self) -> bool
+    /// Whether it is a pointer.
+    pub fn points(self) -> bool
         ensures { result ≡ points self }
     {
         self.fits && self.ty.is_pointer()
@@ -180,14 +182,21 @@ pub fn unary_fits(op: UnaryOp, of: Judged, ty: Ty) -> bool
     }
 }
 
-// Whether there is a type, and it is this one.
-fn is_type(there: Option<Ty>, ty: Ty) -> bool
+/// Whether there is a type, and it is this one.
+pub fn is_type(there: Option<Ty>, ty: Ty) -> bool
     ensures { result ≡ is_type there ty }
 {
     match there {
         None => false,
         Some(there) => there.same(ty),
     }
+}
+
+/// Whether what `sizeof` gives of a type of so many cells has its type (C11 6.5.3.4).
+pub fn sizeof_fits(cells: u32) -> bool
+    ensures { result ≡ nat_le cells most_cells }
+{
+    cells <= MOST_CELLS
 }
 
 /// Whether a literal of type `int` or `unsigned int` has its type (C11 6.4.4.1).

@@ -8,11 +8,13 @@ mod judged;
 mod scope;
 mod structs;
 mod ty;
+mod type_name;
 mod variables;
 
 pub use callees::{Callees, Signature};
 pub use expr::{Built, build_expr, going_to};
-pub use judged::Judged;
+pub use judged::{Judged, is_type};
 pub use scope::{FunctionScope, SectionScope};
-pub use structs::Structs;
+pub use structs::{MOST_CELLS, Structs};
+pub use type_name::{base_of, cells_under, type_of_name};
 pub use variables::{Found, Variables};

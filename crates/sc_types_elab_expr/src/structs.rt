@@ -10,6 +10,9 @@ use sqlite_items::Items;
 use std::alloc::Global;
 use std::marker::Model;
 
+/// The cells of a variable, and of a struct, are at most this many.
+pub const MOST_CELLS: u32 = 1_048_576;
+
 /// Structs in order, with their members found by name. Contracts see the list.
 #[derive(Drop)]
 pub struct Structs {

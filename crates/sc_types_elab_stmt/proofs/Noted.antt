@@ -1,10 +1,11 @@
 -- What the lines of a statement's parts are.
 use Rattle.sc_types_elab_stmt.proofs.Common.{Bool, CallTree, Callees, Err, ExprTree, List, Ok, OnOk, Option, Result}
-use Rattle.sc_types_elab_stmt.proofs.Common.{Scope, SimpleTree, StmtKind, StmtTree, Ty, Visible, [], ap, arith}
-use Rattle.sc_types_elab_stmt.proofs.Common.{assign_call_holds, assign_holds, call_holds, concat, cond_holds, drop}
-use Rattle.sc_types_elab_stmt.proofs.Common.{drop-step, drop_all, get_or, length, lines_at, map, part_type_lines}
-use Rattle.sc_types_elab_stmt.proofs.Common.{return_call_holds, return_value_holds, rules, stmt_type_lines, sym, unless}
-use Rattle.sc_types_elab_stmt.proofs.Common.{with_lines, ℕ, ◌++◌, ◌+◌, ◌<◌, ◌∙◌, ◌≡◌, ◌≤◌}
+use Rattle.sc_types_elab_stmt.proofs.Common.{Scope, SimpleTree, StmtKind, StmtTree, Ty, TypeName, Visible, [], ap}
+use Rattle.sc_types_elab_stmt.proofs.Common.{arith, assign_call_holds, assign_holds, call_holds, concat, cond_holds}
+use Rattle.sc_types_elab_stmt.proofs.Common.{drop, drop-step, drop_all, free_holds, get_or, length, lines_at}
+use Rattle.sc_types_elab_stmt.proofs.Common.{malloc_holds, map, part_type_lines, return_call_holds, return_value_holds}
+use Rattle.sc_types_elab_stmt.proofs.Common.{rules, stmt_type_lines, sym, unless, with_lines, ℕ, ◌++◌, ◌+◌, ◌<◌, ◌∙◌}
+use Rattle.sc_types_elab_stmt.proofs.Common.{◌≡◌, ◌≤◌}
 use Rattle.sc_types_scope.specs.declared.broken.BrokenLines.{BrokenLines}
 use Rattle.sc_types_scope.proofs.Lines.{with_lines-append, with_lines-nil}
 use Rattle.sc_ast.specs.declared.stmt.StmtTree as trees
@@ -37,6 +38,15 @@ module _ (visible : Visible) (callees : Callees) (scope : Scope) (result : Optio
   pub kind-call : (call : CallTree) (line : ℕ) → at (tree.Call call) line ≡
       unless (call_holds visible callees scope result call) line
   kind-call call line = search (rules, tree.the_lemmas)
+
+  pub kind-malloc : (place : ExprTree) (count : Option ExprTree) (of : TypeName) (line : ℕ) →
+      at (tree.Malloc place count of) line ≡
+      unless (malloc_holds visible callees scope result place count of) line
+  kind-malloc place count of line = search (rules, tree.the_lemmas)
+
+  pub kind-free : (pointer : ExprTree) (line : ℕ) →
+      at (tree.Free pointer) line ≡ unless (free_holds visible callees scope result pointer) line
+  kind-free pointer line = search (rules, tree.the_lemmas)
 
   pub kind-return_value : (value : ExprTree) (line : ℕ) →
       at (tree.ReturnValue value) line ≡ unless (return_value_holds visible callees scope result value) line
@@ -114,6 +124,8 @@ pub ruleset statements = (
   kind-assign,
   kind-assign_call,
   kind-call,
+  kind-malloc,
+  kind-free,
   kind-return_value,
   kind-return_call,
   with_lines-nil,

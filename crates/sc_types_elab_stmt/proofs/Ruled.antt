@@ -61,6 +61,11 @@ module _ (visible : Visible) (scope : Scope) where
       holds ≡ (is_target (judged scope e) && (fits && result e.ty))
   takes_call_is p e j gives holds fits result is same reported so = cc
 
+  -- what a place takes by its type
+  pub takes_typed_is : (p e : TypedExpr) (j : Judged) (goes holds : Bool) (fits : Ty → Bool) → j ≡ judged scope p →
+      p ≡ e → goes ≡ fits p.ty → holds ≡ (is_target j && goes) → holds ≡ (is_target (judged scope e) && fits e.ty)
+  takes_typed_is p e j goes holds fits is same reported so = cc
+
 pub ok_map : {A E : Type 0} (P Q : A → Type 0) (r : Result A E) → ((x : A) → P x → Q x) → IfOk r P → IfOk r Q
 ok_map P Q (Ok x) f p = f x p
 ok_map P Q (Err e) f p = tt

@@ -1,9 +1,9 @@
 -- What statements are in a function's body, form by form.
 use Rattle.sc_types_elab_stmt.proofs.Common.{CallTree, ExprTree, FunctionScope, List, None, Option, SectionScope}
-use Rattle.sc_types_elab_stmt.proofs.Common.{SimpleTree, Some, StmtTree, args_in, call_in, called, expr_in}
-use Rattle.sc_types_elab_stmt.proofs.Common.{going_to_some, kind_in, map, params_called, part_in, refl, returned_in}
-use Rattle.sc_types_elab_stmt.proofs.Common.{rules}
-use Rattle.sc_types_elab_stmt.proofs.Common.{simple_in, stmt_in, value_in, ◌≡◌}
+use Rattle.sc_types_elab_stmt.proofs.Common.{SimpleTree, Some, StmtTree, TypeName, args_in, call_in, called}
+use Rattle.sc_types_elab_stmt.proofs.Common.{cells_under, count_in, expr_in, going_to_some, int_pointer, kind_in, map}
+use Rattle.sc_types_elab_stmt.proofs.Common.{params_called, part_in, refl, returned_in, rules, simple_in, stmt_in}
+use Rattle.sc_types_elab_stmt.proofs.Common.{value_in, ◌≡◌}
 use Rattle.sc_ast.specs.declared.stmt.SimpleKind.TheVariants as simple_tree
 use Rattle.sc_ast.specs.declared.stmt.StmtTree as trees
 use Rattle.sc_ast.specs.declared.stmt.StmtKind as tree
@@ -17,6 +17,14 @@ module _ (section : SectionScope) (function : FunctionScope) where
   }
   unfolding call_in args_in
   call_is call = refl
+
+  pub count_none : count_in section function None ≡ None
+  unfolding count_in
+  count_none = refl
+
+  pub count_some : (count : ExprTree) → count_in section function (Some count) ≡ Some (expr_in section function count)
+  unfolding count_in expr_in
+  count_some count = refl
 
   pub returned_is : (value : ExprTree) → returned_in section function value ≡
       going_to_some function.result (expr_in section function value)
@@ -39,6 +47,18 @@ module _ (section : SectionScope) (function : FunctionScope) where
       simple.Call (call_in section function call)
   unfolding simple_in call_in
   simple_call call = refl
+
+  pub simple_malloc : (place : ExprTree) (count : Option ExprTree) (of : TypeName) →
+      simple_in section function (simple_tree.Malloc place count of) ≡
+      simple.Malloc (expr_in section function place) (count_in section function count)
+      (cells_under section.tags section.structs of)
+  unfolding simple_in expr_in count_in
+  simple_malloc place count of = refl
+
+  pub simple_free : (pointer : ExprTree) → simple_in section function (simple_tree.Free pointer) ≡
+      simple.Free (value_in section function int_pointer pointer)
+  unfolding simple_in value_in
+  simple_free pointer = refl
 
   pub part_none : part_in section function None ≡ None
   unfolding part_in
@@ -68,6 +88,17 @@ module _ (section : SectionScope) (function : FunctionScope) where
       typed.Call (call_in section function call)
   unfolding kind_in call_in
   kind_call call = search (rules, tree.the_lemmas, trees.the_lemmas)
+
+  pub kind_malloc : (place : ExprTree) (count : Option ExprTree) (of : TypeName) →
+      kind_in section function (tree.Malloc place count of) ≡ typed.Malloc (expr_in section function place)
+      (count_in section function count) (cells_under section.tags section.structs of)
+  unfolding kind_in expr_in count_in
+  kind_malloc place count of = search (rules, tree.the_lemmas, trees.the_lemmas)
+
+  pub kind_free : (pointer : ExprTree) → kind_in section function (tree.Free pointer) ≡
+      typed.Free (value_in section function int_pointer pointer)
+  unfolding kind_in value_in
+  kind_free pointer = search (rules, tree.the_lemmas, trees.the_lemmas)
 
   pub kind_if : (cond : ExprTree) (first second : List StmtTree) →
       kind_in section function (tree.If cond first second) ≡ typed.If (expr_in section function cond)
@@ -113,7 +144,9 @@ module _ (section : SectionScope) (function : FunctionScope) where
   unfolding stmt_in kind_in
   stmt_is s = search (rules, tree.the_lemmas, trees.the_lemmas)
 
-pub ruleset simple_forms = (simple_assign, simple_assign_call, simple_call)
+pub ruleset count_forms = (count_none, count_some)
+
+pub ruleset simple_forms = (simple_assign, simple_assign_call, simple_call, simple_malloc, simple_free)
 
 pub ruleset part_forms = (part_none, part_some)
 
@@ -122,6 +155,8 @@ pub ruleset kind_forms = (
   kind_assign,
   kind_assign_call,
   kind_call,
+  kind_malloc,
+  kind_free,
   kind_if,
   kind_while,
   kind_for,

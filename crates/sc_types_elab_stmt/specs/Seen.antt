@@ -4,8 +4,8 @@ use Rattle.sc_types_elab_stmt.specs.Common.{TypedCall, TypedExpr, TypedSimple, T
 use Rattle.sc_types_elab_stmt.specs.Common.{TypedStmtKind, called, fold-StmtKind, going_to, typed, visible}
 use Rattle.std.specs.Prelude.{List, Option, map}
 use Rattle.std.specs.Option.{option_map}
-use Rattle.sc_types_elab_stmt.specs.Statements.{going_to_some, going_to_all, typed_call, typed_simple_kind}
-use Rattle.sc_types_elab_stmt.specs.Statements.{typed_simple, typed_stmt, kind_typed, stmt_typed}
+use Rattle.sc_types_elab_stmt.specs.Statements.{going_to_some, going_to_all, typed_call, typed_count}
+use Rattle.sc_types_elab_stmt.specs.Statements.{typed_simple, typed_simple_kind, typed_stmt, kind_typed, stmt_typed}
 use Rattle.sc_types_elab_expr.specs.declared.scope.SectionScope.{SectionScope}
 use Rattle.sc_types_elab_expr.specs.declared.scope.FunctionScope.{FunctionScope}
 
@@ -17,6 +17,10 @@ module _ (section : SectionScope) (function : FunctionScope) where
   -- on its way out of the function
   unfoldable pub returned_in : ExprTree → TypedExpr
   returned_in value = going_to_some function.result (typed (visible section function) value)
+
+  -- how many elements are allocated
+  unfoldable pub count_in : Option ExprTree → Option TypedExpr
+  count_in = typed_count (visible section function) (called section.callees)
 
   -- on their way to parameters
   unfoldable pub args_in : List Ty → List ExprTree → List TypedExpr

@@ -1,9 +1,10 @@
 -- Statements with their types, and the lines of those that break the rules of types (C11 6.8).
 use Rattle.sc_types_elab_stmt.specs.Common.{CallTree, Callees, ExprTree, Judged, Scope, Signature, SimpleKind}
-use Rattle.sc_types_elab_stmt.specs.Common.{SimpleTree, StmtKind-F, StmtTree, StmtTree-F, Ty, TypedCall, TypedExpr}
-use Rattle.sc_types_elab_stmt.specs.Common.{TypedSimple, TypedSimpleKind, TypedStmt, TypedStmtKind, Visible, args_fit}
-use Rattle.sc_types_elab_stmt.specs.Common.{assign_fits, fold-StmtTree, going_to, is_scalar, is_target, judged}
-use Rattle.sc_types_elab_stmt.specs.Common.{result_goes, returned_fits, typed}
+use Rattle.sc_types_elab_stmt.specs.Common.{SimpleTree, StmtKind-F, StmtTree, StmtTree-F, Ty, TypeName, TypedCall}
+use Rattle.sc_types_elab_stmt.specs.Common.{TypedExpr, TypedSimple, TypedSimpleKind, TypedStmt, TypedStmtKind, Visible}
+use Rattle.sc_types_elab_stmt.specs.Common.{args_fit, assign_fits, cells_under, count_fits, fold-StmtTree, going_to}
+use Rattle.sc_types_elab_stmt.specs.Common.{is_scalar, is_target, is_type, judged, pointer_to, points, result_goes}
+use Rattle.sc_types_elab_stmt.specs.Common.{returned_fits, type_of_name, typed}
 use Rattle.sc_base.specs.Prelude.{all_hold}
 use Rattle.sc_types_scope.specs.Prelude.{unless}
 use Rattle.std.specs.Prelude.{ℕ, Bool, false, ◌&&◌, not, List, [], ◌∷◌, ◌++◌, map, Option, Some, None, is_some}
@@ -11,6 +12,8 @@ use Rattle.std.specs.List.{concat}
 use Rattle.std.specs.Option.{option_map}
 use Rattle.sc_ast.specs.declared.stmt.SimpleKind.TheVariants as simple_tree
 use Rattle.sc_ast.specs.declared.stmt.StmtKind.TheOpen as tree
+use Rattle.sc_core.specs.declared.ty.Ty.TheVariants as ty
+use Rattle.sc_core.specs.declared.ty.BaseTy.TheVariants as base
 use Rattle.sc_core.specs.declared.stmt.TypedStmtKind as typed_kind
 use Rattle.sc_core.specs.declared.stmt.TypedSimpleKind.TheVariants as simple
 
@@ -18,6 +21,10 @@ use Rattle.sc_core.specs.declared.stmt.TypedSimpleKind.TheVariants as simple
 abbrev pub going_to_some : Option Ty → TypedExpr → TypedExpr
 going_to_some None e = e
 going_to_some (Some place) e = going_to place e
+
+-- the type of a null pointer that is freed
+abbrev pub int_pointer : Ty
+int_pointer = ty.Pointer 1 base.Int
 
 -- arguments on their way to parameters
 abbrev pub going_to_all : List Ty → List TypedExpr → List TypedExpr
@@ -40,10 +47,25 @@ module _ (visible : Visible) (callees : Callees) where
   abbrev pub typed_value : ExprTree → ExprTree → TypedExpr
   typed_value place value = going_to (typed visible place).ty (typed visible value)
 
+  -- how many elements are allocated, where it stands
+  abbrev pub typed_count : Option ExprTree → Option TypedExpr
+  typed_count = option_map (typed visible)
+
+  -- the cells of one element
+  abbrev pub element_cells : TypeName → ℕ
+  element_cells = cells_under visible.tags visible.structs
+
+  -- what is freed: a literal of value 0 is a null pointer there
+  abbrev pub typed_freed : ExprTree → TypedExpr
+  typed_freed pointer = going_to int_pointer (typed visible pointer)
+
   abbrev pub typed_simple_kind : SimpleKind → TypedSimpleKind
   typed_simple_kind (simple_tree.Assign place value) = simple.Assign (typed visible place) (typed_value place value)
   typed_simple_kind (simple_tree.AssignCall place call) = simple.AssignCall (typed visible place) (typed_call call)
   typed_simple_kind (simple_tree.Call call) = simple.Call (typed_call call)
+  typed_simple_kind (simple_tree.Malloc place count of) =
+      simple.Malloc (typed visible place) (typed_count count) (element_cells of)
+  typed_simple_kind (simple_tree.Free pointer) = simple.Free (typed_freed pointer)
 
   abbrev pub typed_simple : SimpleTree → TypedSimple
   typed_simple s = record { line = s.line; kind = typed_simple_kind s.kind }
@@ -54,6 +76,9 @@ module _ (visible : Visible) (callees : Callees) where
     kind_typed (tree.Assign place value) = typed_kind.Assign (typed visible place) (typed_value place value)
     kind_typed (tree.AssignCall place call) = typed_kind.AssignCall (typed visible place) (typed_call call)
     kind_typed (tree.Call call) = typed_kind.Call (typed_call call)
+    kind_typed (tree.Malloc place count of) =
+        typed_kind.Malloc (typed visible place) (typed_count count) (element_cells of)
+    kind_typed (tree.Free pointer) = typed_kind.Free (typed_freed pointer)
     kind_typed (tree.If cond first second) = typed_kind.If (typed visible cond) first second
     kind_typed (tree.While cond body) = typed_kind.While (typed visible cond) body
     kind_typed (tree.For first cond next body) =
@@ -90,6 +115,19 @@ module _ (visible : Visible) (callees : Callees) where
         result_goes (callees.signature call.name) (typed visible place).ty ∷ []
         )
 
+    -- so many elements of a type are allocated for a pointer to this type (C11 7.22.3.4)
+    abbrev pub malloc_holds : ExprTree → Option ExprTree → TypeName → Bool
+    malloc_holds place count of =
+        all_hold (
+        is_target (judge (typed visible place)) ∷
+        is_type (pointer_to (type_of_name visible.tags of)) (typed visible place).ty ∷
+        count_fits (option_map judge (typed_count count)) ∷ []
+        )
+
+    -- a pointer is freed (C11 7.22.3.3)
+    abbrev pub free_holds : ExprTree → Bool
+    free_holds pointer = points (judge (typed_freed pointer))
+
     abbrev pub cond_holds : ExprTree → Bool
     cond_holds cond = is_scalar (judge (typed visible cond))
 
@@ -104,6 +142,8 @@ module _ (visible : Visible) (callees : Callees) where
     simple_holds (simple_tree.Assign place value) = assign_holds place value
     simple_holds (simple_tree.AssignCall place call) = assign_call_holds place call
     simple_holds (simple_tree.Call call) = call_holds call
+    simple_holds (simple_tree.Malloc place count of) = malloc_holds place count of
+    simple_holds (simple_tree.Free pointer) = free_holds pointer
 
     -- the lines of a part of `for`
     abbrev pub part_type_lines : Option SimpleTree → List ℕ
@@ -115,6 +155,8 @@ module _ (visible : Visible) (callees : Callees) where
     kind_type_lines (tree.Assign place value) line = unless (assign_holds place value) line
     kind_type_lines (tree.AssignCall place call) line = unless (assign_call_holds place call) line
     kind_type_lines (tree.Call call) line = unless (call_holds call) line
+    kind_type_lines (tree.Malloc place count of) line = unless (malloc_holds place count of) line
+    kind_type_lines (tree.Free pointer) line = unless (free_holds pointer) line
     kind_type_lines (tree.If cond first second) line = unless (cond_holds cond) line ++ (concat first ++ concat second)
     kind_type_lines (tree.While cond body) line = unless (cond_holds cond) line ++ concat body
     kind_type_lines (tree.For first cond next body) line =

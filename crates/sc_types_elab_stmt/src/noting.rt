@@ -122,6 +122,14 @@ impl Place<'_> {
                 lines.unless(self.call_holds(alloc, call)?, line);
                 Ok(())
             }
+            StmtKind::Malloc { place, count, of } => {
+                lines.unless(self.malloc_holds(alloc, place.get(), count, of)?, line);
+                Ok(())
+            }
+            StmtKind::Free(pointer) => {
+                lines.unless(self.free_holds(alloc, pointer)?, line);
+                Ok(())
+            }
             StmtKind::Return => {
                 lines.unless(self.function.result.is_none(), line);
                 Ok(())

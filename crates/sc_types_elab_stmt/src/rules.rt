@@ -1,16 +1,18 @@
 //! The rules of types on the parts of statements (C11 6.5.2.2, 6.5.16.1, 6.8), by what is judged of their expressions.
 
 ghost use Rattle.sc_types_elab_stmt.specs.Prelude.{Scope, Suits, all_go, assign_call_holds, assign_holds, call_holds};
-ghost use Rattle.sc_types_elab_stmt.specs.Prelude.{called, cond_holds, goes_in, init_goes, is_target, option_goes};
-ghost use Rattle.sc_types_elab_stmt.specs.Prelude.{result_goes, return_call_holds, return_value_holds, simple_holds};
-ghost use Rattle.sc_types_elab_stmt.specs.Prelude.{visible};
+ghost use Rattle.sc_types_elab_stmt.specs.Prelude.{called, cond_holds, count_fits, free_holds, goes_in, init_goes};
+ghost use Rattle.sc_types_elab_stmt.specs.Prelude.{is_int, is_target, is_type, judged, malloc_holds, option_goes};
+ghost use Rattle.sc_types_elab_stmt.specs.Prelude.{pointer_to, result_goes, type_of_name};
+ghost use Rattle.sc_types_elab_stmt.specs.Prelude.{return_call_holds, return_value_holds, simple_holds, typed, visible};
+ghost use Rattle.std.specs.Option.{option_map};
 ghost use Rattle.std.specs.Prelude.{◌≡◌, ◌&&◌, Some, IfOk};
 
-use crate::stmt::build_value;
-use sc_ast::{CallTree, ExprTree, SimpleKind};
+use crate::stmt::{build_value, int_pointer};
+use sc_ast::{CallTree, ExprTree, SimpleKind, TypeName};
 use sc_base::{Name, OutOfMemory};
 use sc_core::Ty;
-use sc_types_elab_expr::{FunctionScope, Judged, SectionScope, build_expr};
+use sc_types_elab_expr::{FunctionScope, Judged, SectionScope, build_expr, is_type, type_of_name};
 use std::alloc::Global;
 
 /// What is seen at a place of a function.
@@ -129,6 +131,72 @@ impl Place<'_> {
         Ok(takes(place.judged, gives))
     }
 
+    fn is_int(&self, alloc: Global, expr: &ExprTree) -> Result<bool, OutOfMemory>
+        ensures { (scope : Scope) → Suits (visible self.now.section.now self.now.function.now) scope →
+            IfOk result (λ holds. holds ≡ is_int (judged scope
+            (typed (visible self.now.section.now self.now.function.now) expr.now))) }
+    {
+        let built = build_expr(alloc, self.section, self.function, expr)?;
+        Ok(built.judged.is_int())
+    }
+
+    // Whether so many elements may be allocated.
+    fn counts(&self, alloc: Global, count: &Option<ExprTree>) -> Result<bool, OutOfMemory>
+        ensures { (scope : Scope) → Suits (visible self.now.section.now self.now.function.now) scope →
+            IfOk result (λ holds. holds ≡ count_fits (option_map (judged scope) (option_map
+            (typed (visible self.now.section.now self.now.function.now)) count.now))) }
+    {
+        match count {
+            None => Ok(true),
+            Some(count) => self.is_int(alloc, count),
+        }
+    }
+
+    // Whether so many elements of a type may be allocated for a place of type `ty`.
+    fn allocates(
+        &self,
+        alloc: Global,
+        ty: Ty,
+        count: &Option<ExprTree>,
+        of: &TypeName,
+    ) -> Result<bool, OutOfMemory>
+        ensures { (scope : Scope) → Suits (visible self.now.section.now self.now.function.now) scope →
+            IfOk result (λ holds. holds ≡ (is_type (pointer_to (type_of_name self.now.section.now.tags of.now)) ty &&
+            count_fits (option_map (judged scope) (option_map
+            (typed (visible self.now.section.now self.now.function.now)) count.now)))) }
+    {
+        let pointer = type_of_name(&self.section.tags, of).pointer_to()?;
+        let counts = self.counts(alloc, count)?;
+        Ok(is_type(pointer, ty) && counts)
+    }
+
+    /// Whether elements of a type may be allocated for a place (C11 7.22.3.4).
+    pub(crate) fn malloc_holds(
+        &self,
+        alloc: Global,
+        place: &ExprTree,
+        count: &Option<ExprTree>,
+        of: &TypeName,
+    ) -> Result<bool, OutOfMemory>
+        ensures { (scope : Scope) → Suits (visible self.now.section.now self.now.function.now) scope →
+            IfOk result (λ holds. holds ≡ malloc_holds (visible self.now.section.now self.now.function.now)
+            (called self.now.section.now.callees) scope self.now.function.now.result place.now count.now of.now) }
+    {
+        let place = build_expr(alloc, self.section, self.function, place)?;
+        let goes = self.allocates(alloc, place.expr.ty, count, of)?;
+        Ok(takes(place.judged, goes))
+    }
+
+    /// Whether this may be freed (C11 7.22.3.3).
+    pub(crate) fn free_holds(&self, alloc: Global, pointer: &ExprTree) -> Result<bool, OutOfMemory>
+        ensures { (scope : Scope) → Suits (visible self.now.section.now self.now.function.now) scope →
+            IfOk result (λ holds. holds ≡ free_holds (visible self.now.section.now self.now.function.now)
+            (called self.now.section.now.callees) scope self.now.function.now.result pointer.now) }
+    {
+        let pointer = build_value(alloc, self.section, self.function, int_pointer(), pointer)?;
+        Ok(pointer.judged.points())
+    }
+
     /// Whether this is a condition.
     pub(crate) fn cond_holds(&self, alloc: Global, cond: &ExprTree) -> Result<bool, OutOfMemory>
         ensures { (scope : Scope) → Suits (visible self.now.section.now self.now.function.now) scope →
@@ -172,7 +240,7 @@ impl Place<'_> {
         }
     }
 
-    /// Whether an assignment or a call keeps the rules.
+    /// Whether a statement that may stand in the head of a `for` keeps the rules.
     pub(crate) fn simple_holds(
         &self,
         alloc: Global,
@@ -188,6 +256,10 @@ impl Place<'_> {
                 self.assign_call_holds(alloc, place.get(), call)
             }
             SimpleKind::Call(call) => self.call_holds(alloc, call),
+            SimpleKind::Malloc { place, count, of } => {
+                self.malloc_holds(alloc, place.get(), count, of)
+            }
+            SimpleKind::Free(pointer) => self.free_holds(alloc, pointer),
         }
     }
 }

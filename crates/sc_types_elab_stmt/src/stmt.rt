@@ -1,18 +1,21 @@
-ghost use Rattle.sc_types_elab_stmt.specs.Prelude.{Scope, Suits, args_in, call_in, called, expr_in, first_of};
-ghost use Rattle.sc_types_elab_stmt.specs.Prelude.{going_to_some, judged, kind_in, params_called, part_in, rest_of};
+ghost use Rattle.sc_types_elab_stmt.specs.Prelude.{Scope, Suits, args_in, call_in, called, count_in, expr_in};
+ghost use Rattle.sc_types_elab_stmt.specs.Prelude.{first_of, going_to_some, int_pointer, judged, kind_in};
+ghost use Rattle.sc_types_elab_stmt.specs.Prelude.{params_called, part_in, rest_of};
 ghost use Rattle.sc_types_elab_stmt.specs.Prelude.{returned_in, simple_in, stmt_in, value_in, visible};
 ghost use Rattle.std.specs.Prelude.{◌≡◌, ◌++◌, ◌∷◌, [], map, drop, IfOk};
 ghost use Rattle.sc_ast.specs.declared.stmt.StmtKind;
 ghost use Rattle.sc_core.specs.declared.stmt.TypedStmtKind;
 
-use sc_ast::{CallTree, ExprTree, PlaceTree, SimpleKind, SimpleTree, StmtKind, StmtTree, Stmts};
+use sc_ast::{
+    CallTree, ExprTree, PlaceTree, SimpleKind, SimpleTree, StmtKind, StmtTree, Stmts, TypeName,
+};
 use sc_base::{Name, OutOfMemory};
 use sc_core::{
-    Ty, TypedCall, TypedExpr, TypedExprs, TypedPlace, TypedSimple, TypedSimpleKind, TypedStmt,
-    TypedStmtKind, TypedStmts,
+    BaseTy, Ty, TypedCall, TypedExpr, TypedExprs, TypedPlace, TypedSimple, TypedSimpleKind,
+    TypedStmt, TypedStmtKind, TypedStmts,
 };
 use sc_types_elab_expr::{
-    Built, Callees, FunctionScope, SectionScope, Signature, build_expr, going_to,
+    Built, Callees, FunctionScope, SectionScope, Signature, build_expr, cells_under, going_to,
 };
 use sqlite_items::Items;
 use std::alloc::Global;
@@ -157,6 +160,51 @@ fn build_assign_call(
     Ok((place, call))
 }
 
+// How many elements are allocated, where it stands.
+#[tactic(auto, using(crate::proofs::Statements::count_forms))]
+fn build_count(
+    alloc: Global,
+    section: &SectionScope,
+    function: &FunctionScope,
+    count: &Option<ExprTree>,
+) -> Result<Option<TypedExpr>, OutOfMemory>
+    ensures { IfOk result (λ built. built ≡ count_in section.now function.now count.now) }
+{
+    match count {
+        None => Ok(None),
+        Some(count) => {
+            let count = build_expr(alloc, section, function, count)?;
+            Ok(Some(count.expr))
+        }
+    }
+}
+
+// The place and the count of an allocation.
+fn build_malloc(
+    alloc: Global,
+    section: &SectionScope,
+    function: &FunctionScope,
+    place: &PlaceTree,
+    count: &Option<ExprTree>,
+) -> Result<(TypedPlace, Option<TypedExpr>), OutOfMemory>
+    ensures place { IfOk result (λ built. built.0 ≡ expr_in section.now function.now place.now) }
+    ensures count { IfOk result (λ built. built.1 ≡ count_in section.now function.now count.now) }
+{
+    let place = build_place(alloc, section, function, place)?;
+    let count = build_count(alloc, section, function, count)?;
+    Ok((place, count))
+}
+
+/// The type of a null pointer that is freed.
+pub fn int_pointer() -> Ty
+    ensures { result ≡ int_pointer }
+{
+    Ty::Pointer {
+        stars: 1,
+        base: BaseTy::Int,
+    }
+}
+
 #[tactic(auto, using(crate::proofs::Statements::simple_forms))]
 fn build_simple_kind(
     alloc: Global,
@@ -178,6 +226,19 @@ fn build_simple_kind(
         SimpleKind::Call(call) => {
             let call = build_call(alloc, section, function, call)?;
             Ok(TypedSimpleKind::Call(call))
+        }
+        SimpleKind::Malloc { place, count, of } => {
+            let (place, count) = build_malloc(alloc, section, function, place, count)?;
+            let cells = cells_under(&section.tags, &section.structs, of);
+            Ok(TypedSimpleKind::Malloc {
+                place,
+                count,
+                cells,
+            })
+        }
+        SimpleKind::Free(pointer) => {
+            let pointer = build_value(alloc, section, function, int_pointer(), pointer)?;
+            Ok(TypedSimpleKind::Free(pointer.expr))
         }
     }
 }
@@ -260,6 +321,42 @@ fn call_kind(
 {
     let call = build_call(alloc, section, function, call)?;
     Ok(TypedStmtKind::Call(call))
+}
+
+// An allocation as a statement.
+#[tactic(auto, using(crate::proofs::Statements::kind_malloc))]
+fn malloc_kind(
+    alloc: Global,
+    section: &SectionScope,
+    function: &FunctionScope,
+    place: &PlaceTree,
+    count: &Option<ExprTree>,
+    of: &TypeName,
+) -> Result<TypedStmtKind, OutOfMemory>
+    ensures { IfOk result (λ built. built ≡
+        kind_in section.now function.now (StmtKind.Malloc place.now count.now of.now)) }
+{
+    let (place, count) = build_malloc(alloc, section, function, place, count)?;
+    let cells = cells_under(&section.tags, &section.structs, of);
+    Ok(TypedStmtKind::Malloc {
+        place,
+        count,
+        cells,
+    })
+}
+
+// A `free` as a statement.
+#[tactic(auto, using(crate::proofs::Statements::kind_free))]
+fn free_kind(
+    alloc: Global,
+    section: &SectionScope,
+    function: &FunctionScope,
+    pointer: &ExprTree,
+) -> Result<TypedStmtKind, OutOfMemory>
+    ensures { IfOk result (λ built. built ≡ kind_in section.now function.now (StmtKind.Free pointer.now)) }
+{
+    let pointer = build_value(alloc, section, function, int_pointer(), pointer)?;
+    Ok(TypedStmtKind::Free(pointer.expr))
 }
 
 // A call whose result is returned.
@@ -402,6 +499,10 @@ fn build_kind(
             assign_call_kind(alloc, section, function, place, call)
         }
         StmtKind::Call(call) => call_kind(alloc, section, function, call),
+        StmtKind::Malloc { place, count, of } => {
+            malloc_kind(alloc, section, function, place, count, of)
+        }
+        StmtKind::Free(pointer) => free_kind(alloc, section, function, pointer),
         StmtKind::If {
             cond,
             then_part,

@@ -22,32 +22,45 @@ use Rattle.sc_types_scope.specs.declared.section_names.SectionNames.{SectionName
 use Rattle.sc_types_scope.specs.Declarations.{among, is_new, are_distinct, struct_names, global_names, proto_names}
 use Rattle.sc_types_scope.specs.Declarations.{function_names, import_names}
 
+-- A tag that is used is that of a struct that is defined before (C11 6.7.2.3).
+abbrev pub base_known : (tags : List Text) → BaseTree → Bool
+base_known tags (base.Struct tag) = among tags tag
+base_known tags _ = true
+
 -- Bodies.
 
--- each variable of an expression is one of these
-abbrev pub knows_step : List Text → ExprTree-F Bool → Bool
-knows_step names (term.Literal number) = true
-knows_step names (term.Variable name) = among names name
-knows_step names (term.Unary o e) = e
-knows_step names (term.Binary o a b) = a && b
-knows_step names (term.Index a b) = a && b
-knows_step names (term.Member e name) = e
-knows_step names (term.Arrow e name) = e
-knows_step names (term.Deref e) = e
-knows_step names (term.Address e) = e
+-- each variable of an expression is one of these names, and each tag one of these
+abbrev pub knows_step : (tags names : List Text) → ExprTree-F Bool → Bool
+knows_step tags names (term.Literal number) = true
+knows_step tags names (term.Variable name) = among names name
+knows_step tags names (term.Unary o e) = e
+knows_step tags names (term.Binary o a b) = a && b
+knows_step tags names (term.Index a b) = a && b
+knows_step tags names (term.Member e name) = e
+knows_step tags names (term.Arrow e name) = e
+knows_step tags names (term.Deref e) = e
+knows_step tags names (term.Address e) = e
+knows_step tags names (term.SizeOf of) = base_known tags of.base
 
-abbrev pub knows : List Text → ExprTree → Bool
-knows names = fold-ExprTree Bool (knows_step names)
+abbrev pub knows : (tags names : List Text) → ExprTree → Bool
+knows tags names = fold-ExprTree Bool (knows_step tags names)
 
--- what may be named in a body: the variables, the functions that the section defines or imports, and what hides these
+-- the same, of an expression that may be absent
+abbrev pub option_knows : (tags names : List Text) → Option ExprTree → Bool
+option_knows tags names None = true
+option_knows tags names (Some e) = knows tags names e
+
+-- what may be named in a body: the structs, the variables, the functions that the section defines or imports, and what
+-- hides these
 pub record Known : Type 0 where
+  pub tags : List Text
   pub variables : List Text
   pub functions : List Text
   pub hiding : List Text
 
 module _ (known : Known) where
   abbrev pub expr_known : ExprTree → Bool
-  expr_known = knows known.variables
+  expr_known = knows known.tags known.variables
 
   -- a called name is a function that no parameter or local hides
   abbrev pub is_callable : Text → Bool
@@ -56,10 +69,17 @@ module _ (known : Known) where
   abbrev pub call_known : CallTree → Bool
   call_known call = is_callable call.name && list_all expr_known call.args
 
+  -- what is allocated: elements of a type that is known
+  abbrev pub malloc_known : ExprTree → Option ExprTree → TypeName → Bool
+  malloc_known place count of =
+      expr_known place && (option_knows known.tags known.variables count && base_known known.tags of.base)
+
   abbrev pub simple_known : SimpleKind → Bool
   simple_known (simple.Assign place value) = expr_known place && expr_known value
   simple_known (simple.AssignCall place call) = expr_known place && call_known call
   simple_known (simple.Call call) = call_known call
+  simple_known (simple.Malloc place count of) = malloc_known place count of
+  simple_known (simple.Free pointer) = expr_known pointer
 
   abbrev pub part_name_lines : Option SimpleTree → List ℕ
   part_name_lines None = []
@@ -76,6 +96,8 @@ module _ (known : Known) where
   kind_name_lines (kind.Assign place value) line looping = unless (expr_known place && expr_known value) line
   kind_name_lines (kind.AssignCall place call) line looping = unless (expr_known place && call_known call) line
   kind_name_lines (kind.Call call) line looping = unless (call_known call) line
+  kind_name_lines (kind.Malloc place count of) line looping = unless (malloc_known place count of) line
+  kind_name_lines (kind.Free pointer) line looping = unless (expr_known pointer) line
   kind_name_lines (kind.If cond first second) line looping =
       unless (expr_known cond) line ++ (all_in looping first ++ all_in looping second)
   kind_name_lines (kind.While cond body) line looping = unless (expr_known cond) line ++ all_in true body
@@ -93,11 +115,7 @@ module _ (known : Known) where
   abbrev pub body_lines : List StmtTree → List ℕ
   body_lines body = concat (map {A = StmtTree} (λ s. stmt_name_lines s false) body)
 
--- Types: a tag that is used is that of a struct that is defined before (C11 6.7.2.3).
-
-abbrev pub base_known : List Text → BaseTree → Bool
-base_known tags (base.Struct tag) = among tags tag
-base_known tags _ = true
+-- Types.
 
 -- a struct that is being defined may hold pointers to itself
 abbrev pub pointed_known : Text → ℕ → BaseTree → Bool
@@ -120,20 +138,16 @@ head_known tags head =
 
 -- Declarations, each with those that stand before it in its section.
 
--- the locals of a function, where these names of it stand before
-abbrev pub init_known : List Text → Option ExprTree → Bool
-init_known variables None = true
-init_known variables (Some init) = knows variables init
-
 -- a local's name is new in its function; its initialiser sees it (C11 6.2.1p7)
 abbrev pub local_known : (tags globals own : List Text) → LocalTree → Bool
 local_known tags globals own local =
     all_hold (
     is_new own local.name ∷
     base_known tags local.ty.base ∷
-    init_known (globals ++ (own ++ local.name ∷ [])) local.init ∷ []
+    option_knows tags (globals ++ (own ++ local.name ∷ [])) local.init ∷ []
     )
 
+-- the locals of a function, where these names of it stand before
 abbrev pub locals_from : (tags globals own : List Text) → List LocalTree → List ℕ
 locals_from tags globals own [] = []
 locals_from tags globals own (local ∷ locals) =
@@ -165,7 +179,12 @@ with_decl names (Function tree) = record names { functions = names.functions ++ 
 
 -- what may be named in the body of a function with these parameters and locals
 abbrev pub known : SectionNames → (own : List Text) → Known
-known names own = record { variables = names.globals ++ own; functions = names.callables; hiding = own }
+known names own = record {
+  tags = names.structs;
+  variables = names.globals ++ own;
+  functions = names.callables;
+  hiding = own;
+}
 
 module _ (names : SectionNames) where
   abbrev pub known_in : FunctionTree → Known

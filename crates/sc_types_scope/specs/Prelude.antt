@@ -14,8 +14,8 @@ pub use Rattle.sc_types_scope.specs.Interfaces.{main_name, number_or_zero, offer
 pub use Rattle.sc_types_scope.specs.Interfaces.{proto_of, scalar_of}
 pub use Rattle.sc_types_scope.specs.Names.{Known, all_in, base_known, body_lines, call_known, decl_name_lines, declared}
 pub use Rattle.sc_types_scope.specs.Names.{expr_known, function_name_lines, global_known, head_known, head_of_known}
-pub use Rattle.sc_types_scope.specs.Names.{init_known, is_callable, known, known_in, knows, name_lines_from}
-pub use Rattle.sc_types_scope.specs.Names.{local_known}
-pub use Rattle.sc_types_scope.specs.Names.{local_names, locals_from, member_known, member_names, names_broken}
-pub use Rattle.sc_types_scope.specs.Names.{param_names, part_name_lines, pointed_known, proto_known, result_known}
-pub use Rattle.sc_types_scope.specs.Names.{section_name_lines, simple_known, stmt_name_lines, struct_known, with_decl}
+pub use Rattle.sc_types_scope.specs.Names.{is_callable, known, known_in, knows, local_known, local_names, locals_from}
+pub use Rattle.sc_types_scope.specs.Names.{malloc_known, member_known, member_names, name_lines_from, names_broken}
+pub use Rattle.sc_types_scope.specs.Names.{option_knows, param_names, part_name_lines, pointed_known, proto_known}
+pub use Rattle.sc_types_scope.specs.Names.{result_known, section_name_lines, simple_known, stmt_name_lines}
+pub use Rattle.sc_types_scope.specs.Names.{struct_known, with_decl}

@@ -1,13 +1,18 @@
 //! The bodies of functions.
 
 ghost use Rattle.sc_types_scope.specs.Prelude.{all_in, among, call_known, expr_known, is_callable, known, knows};
-ghost use Rattle.sc_types_scope.specs.Prelude.{part_name_lines, simple_known, stmt_name_lines, with_lines};
+ghost use Rattle.sc_types_scope.specs.Prelude.{malloc_known, option_knows, part_name_lines, simple_known};
+ghost use Rattle.sc_types_scope.specs.Prelude.{stmt_name_lines, with_lines};
 ghost use Rattle.std.specs.Prelude.{◌≡◌, ◌++◌, [], map};
 ghost use Rattle.std.specs.List.{list_all};
 
 use crate::BrokenLines;
 use crate::section_names::SectionNames;
-use sc_ast::{CallTree, ExprTree, Exprs, SimpleKind, SimpleTree, StmtKind, StmtTree, Stmts};
+use crate::types::base_known;
+use sc_ast::{
+    CallTree, ExprTree, Exprs, PlaceTree, SimpleKind, SimpleTree, StmtKind, StmtTree, Stmts,
+    TypeName,
+};
 use sc_base::{Name, NameList};
 
 /// Notes the lines of statements, which stand in a loop or not, at which rules of names are broken. The parameters
@@ -50,6 +55,10 @@ fn stmt_lines(
             lines.unless(holds, line);
         }
         StmtKind::Call(call) => lines.unless(call_known(names, own, call), line),
+        StmtKind::Malloc { place, count, of } => {
+            lines.unless(malloc_known(names, own, place, count, of), line);
+        }
+        StmtKind::Free(pointer) => lines.unless(knows(names, own, pointer), line),
         StmtKind::If {
             cond,
             then_part,
@@ -108,7 +117,23 @@ fn simple_known(names: &SectionNames, own: &NameList, kind: &SimpleKind) -> bool
             knows(names, own, place.get()) && call_known(names, own, call)
         }
         SimpleKind::Call(call) => call_known(names, own, call),
+        SimpleKind::Malloc { place, count, of } => malloc_known(names, own, place, count, of),
+        SimpleKind::Free(pointer) => knows(names, own, pointer),
     }
+}
+
+fn malloc_known(
+    names: &SectionNames,
+    own: &NameList,
+    place: &PlaceTree,
+    count: &Option<ExprTree>,
+    of: &TypeName,
+) -> bool
+    ensures { result ≡ malloc_known (known names.now own.now) place.now count.now of.now }
+{
+    knows(names, own, place.get())
+        && option_knows(names, own, count)
+        && base_known(&names.structs, &of.base)
 }
 
 fn call_known(names: &SectionNames, own: &NameList, call: &CallTree) -> bool
@@ -130,9 +155,18 @@ fn all_known(names: &SectionNames, own: &NameList, exprs: &Exprs) -> bool
     exprs.as_slice().iter().all(|expr| knows(names, own, expr))
 }
 
-/// Whether each variable of an expression is a global or one of `own`.
-pub fn knows(names: &SectionNames, own: &NameList, expr: &ExprTree) -> bool
-    ensures { result ≡ knows (names.now.globals ++ own.now) expr.now }
+/// Whether this of an expression, if it is there: each variable is a global or one of `own`, each tag a struct's.
+pub fn option_knows(names: &SectionNames, own: &NameList, expr: &Option<ExprTree>) -> bool
+    ensures { result ≡ option_knows names.now.structs (names.now.globals ++ own.now) expr.now }
+{
+    match expr {
+        None => true,
+        Some(expr) => knows(names, own, expr),
+    }
+}
+
+fn knows(names: &SectionNames, own: &NameList, expr: &ExprTree) -> bool
+    ensures { result ≡ knows names.now.structs (names.now.globals ++ own.now) expr.now }
 {
     match expr {
         ExprTree::Literal(_) => true,
@@ -148,6 +182,7 @@ pub fn knows(names: &SectionNames, own: &NameList, expr: &ExprTree) -> bool
         ExprTree::Arrow { base, .. } => knows(names, own, base.get()),
         ExprTree::Deref(of) => knows(names, own, of.get()),
         ExprTree::Address(of) => knows(names, own, of.get()),
+        ExprTree::SizeOf(of) => base_known(&names.structs, &of.base),
     }
 }
 

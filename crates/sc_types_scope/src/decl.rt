@@ -1,20 +1,17 @@
 //! Declarations.
 
 ghost use Rattle.sc_types_scope.specs.Prelude.{decl_name_lines, function_name_lines, global_known, head_of_known};
-ghost use Rattle.sc_types_scope.specs.Prelude.{init_known};
 ghost use Rattle.sc_types_scope.specs.Prelude.{local_known, locals_from, param_names, proto_known, struct_known};
 ghost use Rattle.sc_types_scope.specs.Prelude.{with_lines};
 ghost use Rattle.std.specs.Prelude.{◌≡◌, ◌++◌, [], ◌∷◌, map, OnOk, IfOk};
 ghost use Rattle.sc_ast.specs.declared.section.LocalTree.{LocalTree};
 
 use crate::BrokenLines;
-use crate::body::{all_lines, knows};
+use crate::body::{all_lines, option_knows};
 use crate::distinct::{members_distinct, push_new, push_params};
 use crate::section_names::SectionNames;
 use crate::types::{base_known, head_types_known, members_known, proto_types_known};
-use sc_ast::{
-    Decl, ExprTree, FunctionTree, GlobalTree, HeadTree, LocalTree, LocalTrees, StructTree,
-};
+use sc_ast::{Decl, FunctionTree, GlobalTree, HeadTree, LocalTree, LocalTrees, StructTree};
 use sc_base::{NameList, OutOfMemory};
 use std::alloc::Global;
 
@@ -93,15 +90,6 @@ fn head_of_known(
     )
 }
 
-fn init_known(names: &SectionNames, own: &NameList, init: &Option<ExprTree>) -> bool
-    ensures { result ≡ init_known (names.now.globals ++ own.now) init.now }
-{
-    match init {
-        None => true,
-        Some(init) => knows(names, own, init),
-    }
-}
-
 // The local's name becomes one of the function's own, which its initialiser sees.
 fn local_known(
     names: &SectionNames,
@@ -112,7 +100,11 @@ fn local_known(
     ensures own { OnOk result (own.new ≡ own.old ++ local.now.name ∷ []) }
 {
     let is_new = push_new(own, local.name.name())?;
-    Ok(is_new && base_known(&names.structs, &local.ty.base) && init_known(names, own, &local.init))
+    Ok(
+        is_new
+            && base_known(&names.structs, &local.ty.base)
+            && option_knows(names, own, &local.init),
+    )
 }
 
 fn locals_lines(

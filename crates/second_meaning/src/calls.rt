@@ -258,6 +258,12 @@ impl<'a> Run<'a> {
             TypedStmtKind::Call(call) => {
                 let _given = self.call(below, frame, line, call)?;
             }
+            TypedStmtKind::Malloc {
+                place,
+                count,
+                cells,
+            } => self.allocate(frame, line, place, count, *cells)?,
+            TypedStmtKind::Free(pointer) => self.free(frame, line, pointer)?,
             TypedStmtKind::If {
                 cond,
                 then_part,
@@ -330,6 +336,12 @@ impl<'a> Run<'a> {
             TypedSimpleKind::Call(call) => {
                 let _given = self.call(below, frame, line, call)?;
             }
+            TypedSimpleKind::Malloc {
+                place,
+                count,
+                cells,
+            } => self.allocate(frame, line, place, count, *cells)?,
+            TypedSimpleKind::Free(pointer) => self.free(frame, line, pointer)?,
         }
         Ok(())
     }

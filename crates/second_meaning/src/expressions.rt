@@ -131,6 +131,7 @@ impl Scope<'_> {
 pub(crate) fn evaluate(scope: &Scope, want: Want, expr: &TypedExpr) -> Result<Value, Cause> {
     let place = match &expr.kind {
         TypedKind::Literal { value } => return Ok(literal(expr.ty, *value)),
+        TypedKind::SizeOf { cells } => return Ok(Value::Word(cells.wrapping_mul(4))),
         TypedKind::Unary { op, of } => {
             let value = evaluate(scope, Want::Value, of.get())?;
             return words::before(*op, of.get().ty.is_unsigned(), value);

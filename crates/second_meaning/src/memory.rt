@@ -1,13 +1,39 @@
-//! The variables of all compartments, one after another (C11 6.2.4, 6.3.2.1).
+//! The variables of all compartments and what they allocated, one after another (C11 6.2.4, 6.3.2.1, 7.22.3).
 use sc_base::OutOfMemory;
 use sc_core::{Cause, Cell, Pointer, Value};
+use sc_event::CompId;
 use std::alloc::Global;
 
-/// A variable: whether it lives, and its cells.
+/// How many words the zone of a compartment has, from which it allocates.
+const ZONE_WORDS: u64 = 65_536;
+
+/// Where a block lies in the zone of a compartment.
+#[derive(Clone, Copy)]
+struct ZonePlace {
+    comp: CompId,
+    first: u64,
+}
+
+/// A variable, or a block that was allocated: whether it lives, its cells, and where it lies if it was allocated.
 #[derive(Drop)]
 struct Variable {
     is_live: bool,
     cells: Vec<Cell>,
+    place: Option<ZonePlace>,
+}
+
+impl Variable {
+    // The end of a block that takes some of these words of a compartment's zone.
+    fn end_over(&self, comp: CompId, first: u64, words: u64) -> Option<u64> {
+        let place = self.place?;
+        let end = place.first.saturating_add(self.cells.len() as u64);
+        let is_apart = end <= first || first.saturating_add(words) <= place.first;
+        if self.is_live && place.comp == comp && !is_apart {
+            Some(end)
+        } else {
+            None
+        }
+    }
 }
 
 /// The variables, in the order in which they were made.
@@ -51,7 +77,77 @@ impl Memory {
         self.variables.push(Variable {
             is_live: true,
             cells,
+            place: None,
         })?;
+        Ok(())
+    }
+
+    // The end of the first block that takes some of these words of a compartment's zone.
+    fn end_over(&self, comp: CompId, first: u64, words: u64) -> Option<u64> {
+        for variable in self.variables.as_slice() {
+            if let Some(end) = variable.end_over(comp, first, words) {
+                return Some(end);
+            }
+        }
+        None
+    }
+
+    // Where so many words of a compartment's zone are free: it goes on behind each block that is in the way.
+    fn first_fit(&self, comp: CompId, words: u64) -> Option<ZonePlace> {
+        let mut first = 0;
+        for _ in 0..self.variables.len() {
+            match self.end_over(comp, first, words) {
+                None => break,
+                Some(end) => first = end,
+            }
+        }
+        if words > 0 && first.saturating_add(words) <= ZONE_WORDS {
+            Some(ZonePlace { comp, first })
+        } else {
+            None
+        }
+    }
+
+    /// Allocates words in a compartment's zone: a pointer to the first, or null where they don't fit or are none.
+    pub(crate) fn allocate(
+        &mut self,
+        alloc: Global,
+        comp: CompId,
+        words: u64,
+    ) -> Result<Value, OutOfMemory> {
+        let Some(place) = self.first_fit(comp, words) else {
+            return Ok(Value::Null);
+        };
+        let mut cells = Vec::new(alloc);
+        for _ in 0..words {
+            cells.push(Cell::Undef)?;
+        }
+        let block = self.variables.len() as u64;
+        self.variables.push(Variable {
+            is_live: true,
+            cells,
+            place: Some(place),
+        })?;
+        Ok(Value::Ptr(Pointer { block, index: 0 }))
+    }
+
+    /// Frees what was allocated.
+    pub(crate) fn free(&mut self, pointer: Value) -> Result<(), Cause> {
+        match pointer {
+            Value::Word(_) => Err(Cause::BadType),
+            Value::Null => Ok(()),
+            Value::Ptr(pointer) => self.free_at(pointer),
+        }
+    }
+
+    fn free_at(&mut self, pointer: Pointer) -> Result<(), Cause> {
+        let Some(variable) = self.variables.get_mut(pointer.block as usize) else {
+            return Err(Cause::BadFree);
+        };
+        if pointer.index != 0 || !variable.is_live || variable.place.is_none() {
+            return Err(Cause::BadFree);
+        }
+        variable.is_live = false;
         Ok(())
     }
 

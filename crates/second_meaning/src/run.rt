@@ -232,6 +232,46 @@ impl<'a> Run<'a> {
         self.store(frame, line, place, value)
     }
 
+    // How many elements are allocated: one where no count stands.
+    fn count(&mut self, frame: &Frame, line: u32, count: &Option<TypedExpr>) -> Result<u32, Halt> {
+        let Some(count) = count else {
+            return Ok(1);
+        };
+        let count = match self.value(frame, line, count)? {
+            Value::Word(word) => Ok(word),
+            _ => Err(Cause::BadType),
+        };
+        self.computed(frame.comp, line, count)
+    }
+
+    /// Stores a pointer to new elements of so many cells: the count first, then the block, then the place, then the
+    /// store.
+    pub(crate) fn allocate(
+        &mut self,
+        frame: &Frame,
+        line: u32,
+        place: &TypedPlace,
+        count: &Option<TypedExpr>,
+        cells: u32,
+    ) -> Result<(), Halt> {
+        let count = self.count(frame, line, count)?;
+        let words = (count as u64).wrapping_mul(cells as u64);
+        let pointer = self.memory.allocate(self.alloc, frame.comp, words)?;
+        self.store(frame, line, place, pointer)
+    }
+
+    /// Frees what the value of an expression points to.
+    pub(crate) fn free(
+        &mut self,
+        frame: &Frame,
+        line: u32,
+        pointer: &TypedExpr,
+    ) -> Result<(), Halt> {
+        let pointer = self.value(frame, line, pointer)?;
+        let freed = self.memory.free(pointer);
+        self.computed(frame.comp, line, freed)
+    }
+
     /// Makes the variables of a call.
     pub(crate) fn begin(
         &mut self,

@@ -1,14 +1,15 @@
 //! Declarations other than functions, and the heads of functions.
 
-ghost use Rattle.sc_ast.specs.Prelude.{base_words, blank, blank_if, comma, const_words, declared_words, ended};
-ghost use Rattle.sc_ast.specs.Prelude.{global_words, head_of, head_words, init_words, length_words, member_line};
-ghost use Rattle.sc_ast.specs.Prelude.{minus_words, name_words, newline, param_of, param_words, params_words};
-ghost use Rattle.sc_ast.specs.Prelude.{result_words, star_words, struct_words, text_of, word};
+ghost use Rattle.sc_ast.specs.Prelude.{base_words, blank, comma, const_words, declared_words, ended, global_words};
+ghost use Rattle.sc_ast.specs.Prelude.{head_of, head_words, init_words, length_words, member_line, minus_words};
+ghost use Rattle.sc_ast.specs.Prelude.{name_words, newline, param_of, param_words, params_words, result_words};
+ghost use Rattle.sc_ast.specs.Prelude.{struct_words, text_of, word};
 ghost use Rattle.std.specs.Prelude.{◌≡◌, ◌<◌, ◌++◌, ◌||◌, [], ◌∷◌, OnOk, codes, nat_lt, is_some, map};
 ghost use Rattle.std.specs.List.{flat_map, join_by};
 
 use crate::ident::Ident;
 use crate::number::ArrayLength;
+use crate::print::types::{append_base, append_blank, append_stars};
 use crate::print::words::{append_indent, append_literal, append_number};
 use crate::section::{
     ConstTree, Consts, FunctionHead, FunctionParam, FunctionParams, GlobalTree, HeadTree, InitTree,
@@ -16,28 +17,6 @@ use crate::section::{
 };
 use crate::types::{BaseTree, TypeName, TypeTree};
 use sc_base::{OutOfMemory, Text};
-
-fn append_base(out: &mut Text, base: &BaseTree) -> Result<(), OutOfMemory>
-    ensures { OnOk result (out.new ≡ out.old ++ text_of (base_words base.now)) }
-{
-    match base {
-        BaseTree::Int => out.append(b"int"),
-        BaseTree::Unsigned => out.append(b"unsigned int"),
-        BaseTree::Struct(tag) => {
-            out.append(b"struct ")?;
-            out.append(tag.as_bytes())
-        }
-    }
-}
-
-fn append_stars(out: &mut Text, stars: u64) -> Result<(), OutOfMemory>
-    ensures { OnOk result (out.new ≡ out.old ++ text_of (star_words stars)) }
-{
-    for _ in 0..stars {
-        out.append(b"*")?;
-    }
-    Ok(())
-}
 
 fn append_length(out: &mut Text, length: Option<ArrayLength>) -> Result<(), OutOfMemory>
     ensures { OnOk result (out.new ≡ out.old ++ text_of (length_words length)) }
@@ -164,12 +143,6 @@ pub fn append_global(out: &mut Text, tree: &GlobalTree) -> Result<(), OutOfMemor
     append_declared(out, &tree.ty, &tree.name)?;
     append_init(out, &tree.init)?;
     out.append(b";\n")
-}
-
-fn append_blank(out: &mut Text, wanted: bool) -> Result<(), OutOfMemory>
-    ensures { OnOk result (out.new ≡ out.old ++ text_of (blank_if wanted)) }
-{
-    if wanted { out.push(b' ') } else { Ok(()) }
 }
 
 fn append_name(out: &mut Text, name: &Option<Ident>) -> Result<(), OutOfMemory>

@@ -1,13 +1,16 @@
 //! Expressions.
 
 ghost use Rattle.sc_ast.specs.Prelude.{apart, binary_text, blank, call_words, closed, comma, expr_words, is_doubled};
-ghost use Rattle.sc_ast.specs.Prelude.{opened, place_words, prefix_words, text_of, unary_text, word, words_at};
+ghost use Rattle.sc_ast.specs.Prelude.{malloc_argument, opened, place_words, prefix_words, sizeof_words, text_of};
+ghost use Rattle.sc_ast.specs.Prelude.{unary_text, word, words_at};
 ghost use Rattle.sc_base.specs.Prelude.{level_of, loosest_level};
 ghost use Rattle.std.specs.Prelude.{◌≡◌, ◌<◌, ◌++◌, [], ◌∷◌, OnOk, codes};
 ghost use Rattle.std.specs.List.{join_by};
 
 use crate::expr::{CallTree, ExprTree, Exprs};
+use crate::print::types::append_type;
 use crate::print::words::{append_closed, append_literal, append_opened};
+use crate::types::TypeName;
 use sc_base::{BinaryOp, LOOSEST, OutOfMemory, POSTFIX, Text, UNARY, UnaryOp, level_of};
 
 fn unary_text(op: UnaryOp) -> &'static [u8]
@@ -82,6 +85,14 @@ fn append_operator(out: &mut Text, op: BinaryOp) -> Result<(), OutOfMemory>
     out.push(b' ')
 }
 
+fn append_sizeof(out: &mut Text, of: &TypeName) -> Result<(), OutOfMemory>
+    ensures { OnOk result (out.new ≡ out.old ++ text_of (sizeof_words of.now)) }
+{
+    out.append(b"sizeof(")?;
+    append_type(out, of)?;
+    out.append(b")")
+}
+
 // Adds an expression after an operator, which is empty where there is none. An expression of this level or a tighter
 // one gets no parentheses.
 #[cycle(expr)]
@@ -120,6 +131,7 @@ fn append_at(out: &mut Text, expr: &ExprTree, before: &[u8], level: u8) -> Resul
         }
         ExprTree::Deref(of) => append_prefixed(out, b"*", of.get(), before, level),
         ExprTree::Address(of) => append_prefixed(out, b"&", of.get(), before, level),
+        ExprTree::SizeOf(of) => append_sizeof(out, of),
     }
 }
 
@@ -181,6 +193,24 @@ pub fn append_place(out: &mut Text, place: &ExprTree) -> Result<(), OutOfMemory>
     ensures { OnOk result (out.new ≡ out.old ++ text_of (place_words place.now)) }
 {
     append_at(out, place, b"", UNARY)
+}
+
+/// Adds what stands in the parentheses of `malloc`.
+pub fn append_malloc_argument(
+    out: &mut Text,
+    count: &Option<ExprTree>,
+    of: &TypeName,
+) -> Result<(), OutOfMemory>
+    ensures { OnOk result (out.new ≡ out.old ++ text_of (expr_words (malloc_argument count.now of.now))) }
+{
+    match count {
+        None => append_sizeof(out, of),
+        Some(count) => {
+            append_at(out, count, b"", level_of(BinaryOp::Mul))?;
+            append_operator(out, BinaryOp::Mul)?;
+            append_sizeof(out, of)
+        }
+    }
 }
 
 /// Adds a call.

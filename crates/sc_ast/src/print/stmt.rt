@@ -1,17 +1,19 @@
 //! Statements.
 
-ghost use Rattle.sc_ast.specs.Prelude.{after_else, assign_call_words, assign_words, blank, block_words, call_words};
-ghost use Rattle.sc_ast.specs.Prelude.{chain_words, condition_words, deeper, else_words, expr_words, first_words};
-ghost use Rattle.sc_ast.specs.Prelude.{is_chain, kind_layout, layouts, line_of, lines_at, next_words, return_words};
-ghost use Rattle.sc_ast.specs.Prelude.{simple_words, stmt_layout, text_of, word};
+ghost use Rattle.sc_ast.specs.Prelude.{after_else, allocation_words, assign_call_words, assign_words, blank};
+ghost use Rattle.sc_ast.specs.Prelude.{block_words, call_words, chain_words, condition_words, deeper, else_words};
+ghost use Rattle.sc_ast.specs.Prelude.{expr_words, first_words, free_words, is_chain, kind_layout, layouts, line_of};
+ghost use Rattle.sc_ast.specs.Prelude.{lines_at, malloc_words, next_words, return_words, simple_words, stmt_layout};
+ghost use Rattle.sc_ast.specs.Prelude.{text_of, word};
 ghost use Rattle.std.specs.Prelude.{◌≡◌, ◌++◌, [], ◌∷◌, OnOk, codes};
 ghost use Rattle.std.specs.List.{list_all};
 
 use crate::expr::{CallTree, ExprTree};
 use crate::place::PlaceTree;
-use crate::print::expr::{append_call, append_expr, append_place};
+use crate::print::expr::{append_call, append_expr, append_malloc_argument, append_place};
 use crate::print::words::{append_indent, deeper};
 use crate::stmt::{SimpleKind, SimpleTree, StmtKind, StmtTree, Stmts};
+use crate::types::TypeName;
 use sc_base::{OutOfMemory, Text};
 
 fn append_assign(out: &mut Text, place: &PlaceTree, value: &ExprTree) -> Result<(), OutOfMemory>
@@ -30,6 +32,39 @@ fn append_assign_call(out: &mut Text, place: &PlaceTree, call: &CallTree) -> Res
     append_call(out, call)
 }
 
+fn append_allocation(
+    out: &mut Text,
+    count: &Option<ExprTree>,
+    of: &TypeName,
+) -> Result<(), OutOfMemory>
+    ensures { OnOk result (out.new ≡ out.old ++ text_of (allocation_words count.now of.now)) }
+{
+    out.append(b"malloc(")?;
+    append_malloc_argument(out, count, of)?;
+    out.append(b")")
+}
+
+fn append_malloc(
+    out: &mut Text,
+    place: &PlaceTree,
+    count: &Option<ExprTree>,
+    of: &TypeName,
+) -> Result<(), OutOfMemory>
+    ensures { OnOk result (out.new ≡ out.old ++ text_of (malloc_words place.now count.now of.now)) }
+{
+    append_place(out, place.get())?;
+    out.append(b" = ")?;
+    append_allocation(out, count, of)
+}
+
+fn append_free(out: &mut Text, pointer: &ExprTree) -> Result<(), OutOfMemory>
+    ensures { OnOk result (out.new ≡ out.old ++ text_of (free_words pointer.now)) }
+{
+    out.append(b"free(")?;
+    append_expr(out, pointer)?;
+    out.append(b")")
+}
+
 fn append_simple(out: &mut Text, kind: &SimpleKind) -> Result<(), OutOfMemory>
     ensures { OnOk result (out.new ≡ out.old ++ text_of (simple_words kind.now)) }
 {
@@ -37,6 +72,8 @@ fn append_simple(out: &mut Text, kind: &SimpleKind) -> Result<(), OutOfMemory>
         SimpleKind::Assign { place, value } => append_assign(out, place, value),
         SimpleKind::AssignCall { place, call } => append_assign_call(out, place, call),
         SimpleKind::Call(call) => append_call(out, call),
+        SimpleKind::Malloc { place, count, of } => append_malloc(out, place, count, of),
+        SimpleKind::Free(pointer) => append_free(out, pointer),
     }
 }
 
@@ -131,6 +168,14 @@ fn append_kind(out: &mut Text, kind: &StmtKind, depth: u32) -> Result<(), OutOfM
         }
         StmtKind::Call(call) => {
             append_call(out, call)?;
+            out.append(b";")
+        }
+        StmtKind::Malloc { place, count, of } => {
+            append_malloc(out, place, count, of)?;
+            out.append(b";")
+        }
+        StmtKind::Free(pointer) => {
+            append_free(out, pointer)?;
             out.append(b";")
         }
         StmtKind::If {

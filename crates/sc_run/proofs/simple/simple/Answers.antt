@@ -6,5 +6,11 @@ returns-in-AssignCall c = rw (c.in-AssignCall.is, ← c.get-in-AssignCall.ensure
 pub returns-in-Call : goal.returns-in-Call
 returns-in-Call c = rw c.in-Call.is c.call-in-Call.ensures
 
+pub returns-in-Malloc : goal.returns-in-Malloc
+returns-in-Malloc c = rw (c.in-Malloc.is, ← c.get-in-Malloc.ensures.value) c.malloc.ensures
+
+pub returns-in-Free : goal.returns-in-Free
+returns-in-Free c = rw c.in-Free.is c.free.ensures
+
 pub returns-in-Assign : goal.returns-in-Assign
 returns-in-Assign c = rw (c.in-Assign.is, ← c.get.ensures.value) c.assigned.ensures

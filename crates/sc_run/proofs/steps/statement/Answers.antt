@@ -1,6 +1,6 @@
 use Rattle.sc_run.proofs.Common.{IfOk-weaker, option_copied, refl, rolls-Assign, rolls-AssignCall, rolls-Break}
-use Rattle.sc_run.proofs.Common.{rolls-Call, rolls-Continue, rolls-Empty, rolls-For, rolls-If, rolls-Return}
-use Rattle.sc_run.proofs.Common.{rolls-ReturnCall, rolls-ReturnValue, rolls-While, sym, ◌∙◌}
+use Rattle.sc_run.proofs.Common.{rolls-Call, rolls-Continue, rolls-Empty, rolls-For, rolls-Free, rolls-If, rolls-Malloc}
+use Rattle.sc_run.proofs.Common.{rolls-Return, rolls-ReturnCall, rolls-ReturnValue, rolls-While, sym, ◌∙◌}
 use Rattle.sc_core.specs.declared.stmt.TypedStmtKind.TheOpen as layer
 use Rattle.sc_run.proofs.Looping.{steps_later}
 use Rattle.sc_run.proofs.Stating.{stmt_as}
@@ -32,6 +32,15 @@ returns-in-AssignCall c = IfOk-weaker c.call.result _ _ (λ step h. stmt_as c.ar
 pub returns-in-Call : goal.returns-in-Call
 returns-in-Call c = IfOk-weaker c.call-in-Call.result _ _ (λ step h. stmt_as c.args.stmt.now (layer.Call c.in-Call.made)
     (c.in-Call.is ∙ sym (rolls-Call _)) h) c.call-in-Call.ensures
+
+pub returns-in-Malloc : goal.returns-in-Malloc
+returns-in-Malloc c = IfOk-weaker c.malloc.result _ _ (λ step h. stmt_as c.args.stmt.now
+    (layer.Malloc c.get-in-Malloc.result.now c.in-Malloc.count c.in-Malloc.cells)
+    (rw c.get-in-Malloc.ensures.value (c.in-Malloc.is ∙ sym (rolls-Malloc _ _ _))) h) c.malloc.ensures
+
+pub returns-in-Free : goal.returns-in-Free
+returns-in-Free c = stmt_as c.args.stmt.now (layer.Free c.in-Free.pointer) (c.in-Free.is ∙ sym (rolls-Free _))
+    c.free.ensures
 
 pub returns-in-ReturnCall : goal.returns-in-ReturnCall
 returns-in-ReturnCall c = IfOk-weaker c.call-in-ReturnCall.result _ _ (λ step h. stmt_as c.args.stmt.now

@@ -10,6 +10,9 @@ returns-in-Variable-clause-judged t c scope suits =
     variable_built scope (visible c.args.section.now c.args.function.now) suits c.name.result c.found.result
     c.variable_built.result c.found.ensures c.variable_built.ensures.expr c.variable_built.ensures.judged
 
+pub returns-in-SizeOf-clause-judged : goal.returns-in-SizeOf-clause-judged
+returns-in-SizeOf-clause-judged t c scope suits = c.sizeof_built.ensures.judged scope
+
 pub returns-in_ok-base-in-Member-clause-judged : goal.returns-in_ok-base-in-Member-clause-judged
 returns-in_ok-base-in-Member-clause-judged t c scope suits =
     member_built scope (visible c.args.section.now c.args.function.now) suits c.name-in-Member.result

@@ -1,16 +1,23 @@
-use Rattle.sc_blocks.proofs.Common.{IsOver, Some, slice_get, subst, variable, ◌≡◌}
-use Rattle.sc_blocks.proofs.Storing.{found_lives, lost_over}
+use Rattle.sc_blocks.proofs.Common.{IsOver, LivesWith, MatchOption, slice_get, subst}
+use Rattle.sc_blocks.proofs.Storing.{either_has, has_in, none_at, variable_has}
 use Rattle.sc_blocks.proofs.row.Row.living.Goals as goal
 
 pub returns-in-Some : goal.returns-in-Some
 returns-in-Some c =
-    subst (λ bs. slice_get bs c.args.block ≡ Some (variable c.index.result.now.cells)) c.self.view_is
-    (found_lives c.self.inside.slots.items c.as_slice.result.now c.self.inside.made c.in-Some.place c.args.block
-    c.index.result.now c.self.invariant c.as_slice.ensures.value c.in-Some.ensures.within c.in-Some.ensures.found
-    c.index.ensures)
+    let slots = c.self.inside.slots.items in
+    let made = c.self.inside.made in
+    subst (λ bs. LivesWith (slice_get bs c.args.block) c.in-Some.cells.now) c.self.view_is
+    (variable_has slots c.self.inside.heap made c.self.invariant.0 c.self.invariant.1 c.args.block c.in-Some.cells.now
+    (has_in slots c.as_slice.result.now made c.args.block c.in-Some.cells.now c.self.invariant.0
+    c.as_slice.ensures.value c.in-Some.ensures))
 
 pub returns-in-None : goal.returns-in-None
 returns-in-None c =
-    subst (λ bs. IsOver (slice_get bs c.args.block)) c.self.view_is
-    (lost_over c.self.inside.slots.items c.as_slice.result.now c.self.inside.made c.args.block c.self.invariant
-    c.as_slice.ensures.value c.in-None.ensures.found)
+    let slots = c.self.inside.slots.items in
+    let made = c.self.inside.made in
+    subst (λ bs. MatchOption c.cells_in-in-None.result (IsOver (slice_get bs c.args.block))
+    (λ cells. LivesWith (slice_get bs c.args.block) cells.now)) c.self.view_is
+    (either_has (λ cells. cells.now) slots c.self.inside.heap c.as_slice-in-None.result.now made c.args.block
+    c.cells_in-in-None.result c.self.invariant.0 c.self.invariant.1
+    (none_at slots c.as_slice.result.now made c.args.block c.self.invariant.0 c.as_slice.ensures.value
+    c.in-None.ensures) c.as_slice-in-None.ensures c.cells_in-in-None.ensures)

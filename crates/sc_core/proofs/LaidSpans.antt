@@ -1,7 +1,9 @@
 -- Spans of a zone, once one more was taken or one was given back.
-use Rattle.sc_emit_relation.proofs.Common.{Bool, List, Some, ℕ, [], and_first, and_rest, ap, arith, cases_eq, cases_lt}
-use Rattle.sc_emit_relation.proofs.Common.{eq-eqb, false, if◌then◌else◌, inl, inr, leb-true, nat_le, ne_eqb, refl}
-use Rattle.sc_emit_relation.proofs.Common.{subst, suc, sym, true, zero, ⊎_elim, ◌+◌, ◌<◌, ◌∙◌, ◌∷◌, ◌≡◌, ◌≢◌, ◌≤◌, ◌⊎◌}
+use Rattle.sc_core.proofs.Common.{Bool, List, Some, ℕ, [], ap, false, refl, subst, suc, ◌+◌, ◌∙◌, ◌∷◌, ◌≡◌}
+use Rattle.sc_base.proofs.Bools.{and_first, and_rest}
+use Rattle.std.proofs.Common.{arith, eq-eqb, if◌then◌else◌, inl, inr, leb-true, nat_le, ne_eqb, sym, true, zero}
+use Rattle.std.proofs.Common.{⊎_elim, ◌<◌, ◌≢◌, ◌≤◌, ◌⊎◌}
+use Rattle.std.proofs.lemmas.Bool.{cases_eq, cases_lt}
 use Rattle.std.specs.Prelude.{◌||◌}
 use Rattle.std.specs.List.{list_all}
 use Rattle.sc_zone.specs.Prelude.{AreLaid, misses, starts_at, with_span, without_span, zone_words}

@@ -1,0 +1,159 @@
+//! Statements that allocate and free (C11 7.22.3).
+
+ghost use Rattle.sc_core.specs.Prelude.{allocate_at, allocated, elements_allocated, free_value, most_nodes, released};
+ghost use Rattle.sc_run.specs.Prelude.{Advances, Comes, Next, count_way_in, evaluated, here_of, kept_by, memory_of};
+ghost use Rattle.sc_run.specs.Prelude.{way_in, with_exit};
+ghost use Rattle.std.specs.Prelude.{◌≡◌, ◌<◌, ◌+◌, ◌*◌, ◌^◌, IfOk, IsTrue, Ok, length};
+ghost use Rattle.sc_core.specs.declared.value.Want.TheVariants as want;
+
+use crate::machine::{blamed, evaluated, store_at};
+use crate::state::Machine;
+use crate::work::{Frame, Leaving, Now, Run, Step};
+use sc_base::OutOfMemory;
+use sc_core::{Cause, Pointer, Program, RunEnd, TypedExpr, Value, Want};
+use sc_event::CompId;
+
+const MOST_NODES: u64 = 16_777_216;
+
+// How many elements are allocated: one where no count stands.
+fn count_of(
+    machine: &Machine,
+    frame: &Frame,
+    count: &Option<TypedExpr>,
+    line: u32,
+) -> Result<Value, RunEnd>
+    ensures { Comes (kept_by machine.now) (kept_by machine.now) result
+        (evaluated (here_of frame.now.scope) want.Value (count_way_in frame.now count.now) line) }
+{
+    match count {
+        None => Ok(Value::Word(1)),
+        Some(count) => evaluated(machine, frame, Want::Value, count, line),
+    }
+}
+
+// Whether a block more has a number, beside the variables of the calls in the turns that are left.
+fn has_number(machine: &Machine, comp: CompId) -> bool
+    ensures { IsTrue result →
+        length (memory_of machine.now.blocks comp) + most_nodes * machine.now.turns < 2 ^ 63 }
+{
+    machine.blocks.made(comp) + MOST_NODES * (machine.turns as u64) < 1 << 63
+}
+
+// A block of so many words, or null where the zone has no place for them.
+fn allocated(machine: &mut Machine, frame: &Frame, words: u64) -> Result<Value, OutOfMemory>
+    ensures { IfOk result (λ pointer. Comes (kept_by machine.old) (kept_by machine.new) (Ok pointer)
+        (allocated (here_of frame.now.scope) words)) }
+{
+    let comp = *frame.scope.comp;
+    if !has_number(machine, comp) {
+        return Err(OutOfMemory);
+    }
+    match machine.blocks.allocate(comp, words)? {
+        Some(block) => Ok(Value::Ptr(Pointer { block, index: 0 })),
+        None => Ok(Value::Null),
+    }
+}
+
+// A block of as many elements as a value says, of `cells` cells each.
+fn elements_allocated(
+    machine: &mut Machine,
+    frame: &Frame,
+    count: Value,
+    cells: u32,
+    line: u32,
+) -> Result<Result<Value, RunEnd>, OutOfMemory>
+    ensures { IfOk result (λ found. Comes (kept_by machine.old) (kept_by machine.new) found
+        (elements_allocated (here_of frame.now.scope) count cells line)) }
+{
+    match count {
+        Value::Word(count) => {
+            let pointer = allocated(machine, frame, count as u64 * cells as u64)?;
+            Ok(Ok(pointer))
+        }
+        _ => Ok(Err(blamed(frame, Cause::BadType, line))),
+    }
+}
+
+// The count, then the block, then the place, then the store.
+fn allocate_at(
+    machine: &mut Machine,
+    frame: &Frame,
+    place: &TypedExpr,
+    count: &Option<TypedExpr>,
+    cells: u32,
+    line: u32,
+) -> Result<Result<(), RunEnd>, OutOfMemory>
+    ensures { IfOk result (λ done. Comes (kept_by machine.old) (kept_by machine.new) (with_exit Next done)
+        (allocate_at (here_of frame.now.scope) (way_in frame.now place.now) (count_way_in frame.now count.now) cells
+        line tt)) }
+{
+    match count_of(machine, frame, count, line) {
+        Ok(count) => match elements_allocated(machine, frame, count, cells, line)? {
+            Ok(pointer) => Ok(store_at(machine, frame, place, pointer, line)),
+            Err(end) => Ok(Err(end)),
+        },
+        Err(end) => Ok(Err(end)),
+    }
+}
+
+// Frees what a value points to.
+fn released(machine: &mut Machine, frame: &Frame, pointer: Value, line: u32) -> Result<(), RunEnd>
+    ensures { Comes (kept_by machine.old) (kept_by machine.new) (with_exit Next result)
+        (released (here_of frame.now.scope) pointer line tt) }
+{
+    match sc_run_value::free(&mut machine.blocks, *frame.scope.comp, pointer) {
+        Ok(()) => Ok(()),
+        Err(cause) => Err(blamed(frame, cause, line)),
+    }
+}
+
+// The pointer, and then what it points to is freed.
+fn free_value(
+    machine: &mut Machine,
+    frame: &Frame,
+    pointer: &TypedExpr,
+    line: u32,
+) -> Result<(), RunEnd>
+    ensures { Comes (kept_by machine.old) (kept_by machine.new) (with_exit Next result)
+        (free_value (here_of frame.now.scope) (way_in frame.now pointer.now) line tt) }
+{
+    match evaluated(machine, frame, Want::Value, pointer, line) {
+        Ok(pointer) => released(machine, frame, pointer, line),
+        Err(end) => Err(end),
+    }
+}
+
+/// An allocation.
+pub fn malloc<'a>(
+    program: &'a Program,
+    run: &mut Run<'a, '_>,
+    place: &TypedExpr,
+    count: &Option<TypedExpr>,
+    cells: u32,
+    line: u32,
+) -> Result<Step<'a>, OutOfMemory>
+    ensures { IfOk result (λ step. Advances program.now run.old (λ n. allocate_at (here_of run.old.frame.scope)
+        (way_in run.old.frame place.now) (count_way_in run.old.frame count.now) cells line tt) step run.new) }
+{
+    let done = allocate_at(&mut run.machine, &run.frame, place, count, cells, line)?;
+    match done {
+        Ok(()) => Ok(Step::Go(Now::Leave(Leaving::Next))),
+        Err(end) => Ok(Step::Stop(end)),
+    }
+}
+
+/// A block that is freed.
+pub fn free<'a>(
+    program: &'a Program,
+    run: &mut Run<'a, '_>,
+    pointer: &TypedExpr,
+    line: u32,
+) -> Step<'a>
+    ensures { Advances program.now run.old (λ n. free_value (here_of run.old.frame.scope)
+        (way_in run.old.frame pointer.now) line tt) result run.new }
+{
+    match free_value(&mut run.machine, &run.frame, pointer, line) {
+        Ok(()) => Step::Go(Now::Leave(Leaving::Next)),
+        Err(end) => Step::Stop(end),
+    }
+}
