@@ -26,8 +26,6 @@ IMAGE = "image_of"
 DOCUMENTS = ("README.md", "docs/PROOFS.md")
 INNER = re.compile(r"sc_emit_|.*_laws$|sc_types_|sc_parse_|sc_run_value$")
 PASSING = ("Prelude.antt", "Common.antt", "Lib.antt")
-# Headed Helping though a contract reaches them: the heads change when these crates are next opened.
-STILL_HELPING = ("crates/sc_zone/specs/Gaps.antt", "crates/sc_parse_expr/specs/TypeReaders.antt")
 HEAD = """# What has to be read
 
 To believe what a contract of this repository claims, trust the prover and read the definitions that the contract cites,
@@ -39,8 +37,7 @@ Code and proofs aren't in it: the prover checks them against these definitions.
 `tools/trusted.py` writes this file from the sources, and `tools/trusted.py --check` says whether it is up to date; the
 gate runs it. It follows each name by the imports of its file. A type of the code counts as contracts see it: a struct
 by its fields, or, where it has a model (`impl Model`), by the type of its values. A trait counts with the contracts of
-its functions. Files of `specs/` headed `Helping` only model code: no public call's contract reaches them, but for
-`Gaps` of `sc_zone` and `TypeReaders` of `sc_parse_expr`, whose heads are wrong so far.
+its functions. Files of `specs/` headed `Helping` only model code: no public call's contract reaches them.
 
 Read from the top: the contract of `{function}` at {place}, then the definitions of each crate in the order of the
 tables. The number after a definition is its line.
@@ -188,7 +185,7 @@ def helping(repository):
         for path in repository.files(crate, "specs", ".antt"):
             if os.path.basename(path) not in PASSING and crate.startswith(("sc_", "rv_")):
                 marked = read(f"{repository.top}/{path}").startswith("-- Helping:")
-                if marked == (path in reached) and path not in STILL_HELPING:
+                if marked == (path in reached):
                     yield f"{'remove' if marked else 'add'} {path}"
 
 

@@ -1,9 +1,10 @@
 -- A row with one more allocated block, or with one less.
 use Rattle.sc_blocks.proofs.Common.{AreApart, Block, Blocks, Bool, Err, HoldsAt, IsOver, IsRising, List, None, Ok}
-use Rattle.sc_blocks.proofs.Common.{Option, Slot, Some, [], ap, arith, bind, block_at, cases_lt, ended_block, false}
+use Rattle.sc_blocks.proofs.Common.{Option, Slot, Some, ap, bind, block_at, false}
 use Rattle.sc_blocks.proofs.Common.{allocated_or_ended, free_cell, free_place, get_or, given_back, if◌then◌else◌, inl}
-use Rattle.sc_blocks.proofs.Common.{inr, laid_out, length, refl, slice_get, slot_among, slot_block, slice_set, spans_in, subst, sym, true}
-use Rattle.sc_blocks.proofs.Common.{variable, variable_or, with_words, ℕ, ◌++◌, ◌+◌, ◌<◌, ◌∙◌, ◌∷◌, ◌≡◌}
+use Rattle.sc_blocks.proofs.Common.{inr, laid_out, length, refl, slice_get, slot_among, slot_block, slice_set}
+use Rattle.sc_blocks.proofs.Common.{spans_in, subst, sym, true}
+use Rattle.sc_blocks.proofs.Common.{variable, variable_or, with_words, ℕ, ◌+◌, ◌<◌, ◌∙◌, ◌≡◌}
 use Rattle.std.specs.Prelude.{is_some, map, replicate}
 use Rattle.std.specs.List.{remove}
 use Rattle.std.proofs.Common.{eq-eqb}

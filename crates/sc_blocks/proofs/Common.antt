@@ -13,6 +13,7 @@ pub use Rattle.sc_core.specs.declared.value.Cell.{Cell}
 pub use Rattle.sc_blocks.specs.Cells.{put_at, put_into, stored_in}
 pub use Rattle.sc_blocks.specs.Rows.{cause_of, cleared, ended_block, free_cell, free_place, given_back, memory_of}
 pub use Rattle.sc_blocks.specs.Rows.{put_in, store_cell, with_words}
-pub use Rattle.sc_blocks.specs.Slots.{AreApart, HasCells, IsOver, IsRising, LivesWith, allocated_or_ended, block_at, count_below}
+pub use Rattle.sc_blocks.specs.Slots.{AreApart, HasCells, IsOver, IsRising, LivesWith, allocated_or_ended, block_at}
+pub use Rattle.sc_blocks.specs.Slots.{count_below}
 pub use Rattle.sc_blocks.specs.Slots.{laid_out, slot_among, slot_block, spans_in, variable_or, without}
 pub use Rattle.sc_blocks.specs.declared.slots.Slot.{Slot}

@@ -1,23 +1,22 @@
--- Where allocated blocks lie: as the slots tell it, once one is more, one is taken out or one is stored into, and in the
--- row of all blocks.
-use Rattle.sc_blocks.proofs.Common.{AreApart, Block, Blocks, Cell, IsRising, List, None, Option, Slot, Some, []}
+-- Where allocated blocks lie: as the slots tell it, once one is more, one is taken out or one is stored into, and in
+-- the row of all blocks.
+use Rattle.sc_blocks.proofs.Common.{AreApart, Block, IsRising, List, None, Option, Slot, Some, []}
 use Rattle.sc_blocks.proofs.Common.{allocated_or_ended, ap, arith, block_at, ended_block, laid_out, length, refl}
 use Rattle.sc_blocks.proofs.Common.{get_or, slice_get, slice_set, slot_among, slot_block, spans_in, subst, suc, sym}
-use Rattle.sc_blocks.proofs.Common.{inl, inr, true, variable_or, zero, ℕ, ◌++◌, ◌+◌, ◌-◌, ◌<◌, ◌∙◌, ◌∷◌, ◌≡◌, ◌≤◌}
-use Rattle.std.specs.Prelude.{fold, map, take, drop, replicate}
-use Rattle.std.specs.List.{remove, remove_range}
+use Rattle.sc_blocks.proofs.Common.{inl, inr, variable_or, zero, ℕ, ◌++◌, ◌+◌, ◌-◌, ◌<◌, ◌∙◌, ◌∷◌, ◌≡◌, ◌≤◌}
+use Rattle.std.specs.Prelude.{fold, map, take, replicate}
+use Rattle.std.specs.List.{remove}
 use Rattle.std.proofs.lemmas.Bool.{cases_eq}
 use Rattle.std.proofs.lemmas.List.{map-append, map-set}
 use Rattle.sc_core.specs.Prelude.{spans_of, with_block}
 use Rattle.sc_core.specs.declared.value.Cell.TheVariants.{Undef}
-use Rattle.sc_core.proofs.Spans.{LiesSame, gone_between, length_blank, none_between, spans_append, spans_changed}
+use Rattle.sc_core.proofs.Spans.{gone_between, none_between, spans_changed}
 use Rattle.sc_core.proofs.Spans.{spans_allocated, still_laid}
 use Rattle.sc_core.proofs.LaidSpans.{IsTaken, WasLaid, gone_taken, is_taken, span_of, was_laid}
-use Rattle.sc_zone.specs.Prelude.{AreLaid, starts_at, taken, with_span, without_span}
+use Rattle.sc_zone.specs.Prelude.{AreLaid, taken, with_span, without_span}
 unfoldable use Rattle.sc_zone.specs.Prelude.{least_free}
 use Rattle.sc_zone.specs.declared.span.Span.{Span}
 use Rattle.sc_blocks.proofs.Living.{met, none_before, rising_to, skipped}
-use Rattle.sc_blocks.specs.Slots.{with_slot}
 
 -- In the row of all blocks.
 
@@ -35,12 +34,17 @@ spans_laid_from f (s ∷ heap) zero from spans up lies =
 spans_laid_from f [] (suc count) from spans up lies =
     ap (λ l. fold with_block l (laid_out f count (suc from))) (lies.others from spans (omega arith) refl) ∙
     spans_laid_from f [] count (suc from) spans (omega arith)
-    (record { lying = λ n slot h. lies.lying n slot (omega (arith, h)); others = λ n l h. lies.others n l (omega (arith, h)) })
+    (record {
+      lying = λ n slot h. lies.lying n slot (omega (arith, h));
+      others = λ n l h. lies.others n l (omega
+          (arith, h));
+    })
 spans_laid_from f (s ∷ heap) (suc count) from spans up lies = elim (cases_eq s.number from) [
   | inl here ↦
       let block : f from ≡ slot_block s = lies.lying from s (omega arith) (met s heap from here) in
       let up_from : IsRising (suc from) (suc from + count) heap =
-      subst (λ n. IsRising (suc n) (suc from + count) heap) here (rising_same heap (suc s.number) _ _ (omega arith) up.1) in
+      subst (λ n. IsRising (suc n) (suc from + count) heap) here (rising_same heap (suc s.number) _ _
+      (omega arith) up.1) in
       ap (λ b. fold with_block (with_block spans b) (laid_out f count (suc from))) block ∙
       spans_laid_from f heap count (suc from) (with_block spans (slot_block s)) up_from (record {
         lying = λ n slot h found. lies.lying n slot (omega (arith, h))
@@ -185,20 +189,3 @@ zone_set spans slots at old new zone within is place long =
     ap spans_of (map_set slots at new) ∙ spans_changed [] (map slot_block slots) at (slot_block old) (slot_block new)
     there (record { live = refl; place = place; long = long }) in
     record { same = zone.same ∙ sym same; laid = subst (AreLaid 0) (sym same) zone.laid }
-
--- Several, from the last one on.
-
-pub range_less : {A : Type 0} (xs : List A) (from last : ℕ) → from ≤ last → last < length xs →
-    remove_range (remove xs last) from last ≡ remove_range xs from (suc last)
-range_less [] from last h within = absurd (omega (arith, within))
-range_less (x ∷ xs) zero zero h within = refl
-range_less (x ∷ xs) zero (suc last) h within = range_less xs zero last (omega arith) (omega (arith, within))
-range_less (x ∷ xs) (suc from) zero h within = absurd (omega (arith, h))
-range_less (x ∷ xs) (suc from) (suc last) h within =
-    ap (λ ys. x ∷ ys) (range_less xs from last (omega (arith, h)) (omega (arith, within)))
-
-pub no_range : {A : Type 0} (xs : List A) (at : ℕ) → remove_range xs at at ≡ xs
-no_range [] zero = refl
-no_range [] (suc at) = refl
-no_range (x ∷ xs) zero = refl
-no_range (x ∷ xs) (suc at) = ap (λ ys. x ∷ ys) (no_range xs at)

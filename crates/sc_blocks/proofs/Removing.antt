@@ -1,7 +1,9 @@
 -- Blocks of a row that end, among those that live.
-use Rattle.sc_blocks.proofs.Common.{AreApart, IsRising, List, None, Slot, Some, [], ap, arith, cases_lt, slot_among, cleared}
+use Rattle.sc_blocks.proofs.Common.{AreApart, IsRising, List, None, Slot, Some, [], ap, arith, cases_lt, slot_among}
+use Rattle.sc_blocks.proofs.Common.{cleared}
 use Rattle.sc_blocks.proofs.Common.{count_below, get_or, if◌then◌else◌, inl, inr, laid_out, le-ltb, length, lt-ltb}
-use Rattle.sc_blocks.proofs.Common.{refl, remove_range, subst, suc, sym, without, zero, ℕ, ◌+◌, ◌<◌, ◌==◌, ◌∙◌, ◌∷◌, ◌≡◌, ◌≤◌}
+use Rattle.sc_blocks.proofs.Common.{refl, remove_range, subst, suc, sym, without, zero, ℕ, ◌+◌, ◌<◌, ◌==◌, ◌∙◌, ◌∷◌}
+use Rattle.sc_blocks.proofs.Common.{◌≡◌, ◌≤◌}
 use Rattle.sc_blocks.proofs.Common.{allocated_or_ended, block_at, variable_or, ◌⊎◌}
 use Rattle.sc_blocks.proofs.Laying.{cleared_laid, given_at}
 use Rattle.sc_blocks.proofs.Living.{rises, rising_at, rising_down, skipped}

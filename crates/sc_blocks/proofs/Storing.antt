@@ -1,13 +1,15 @@
 -- A row at the number of a block, with one more block, and with a store into one of its blocks.
 use Rattle.sc_blocks.proofs.Common.{AreApart, Block, Blocks, Cell, Err, HasCells, HoldsAt, IsOver, IsRising, List}
-use Rattle.sc_blocks.proofs.Common.{LivesWith, MatchOption, MatchResult, None, Ok, Option, Result, Slot, Some, [], add-one}
-use Rattle.sc_blocks.proofs.Common.{allocated_or_ended, ap, arith, bind, block_at, cases_lt, cause_of, ended_block, get_or}
+use Rattle.sc_blocks.proofs.Common.{LivesWith, MatchOption, MatchResult, None, Ok, Option, Result, Slot, Some, []}
+use Rattle.sc_blocks.proofs.Common.{add-one}
+use Rattle.sc_blocks.proofs.Common.{allocated_or_ended, ap, arith, bind, block_at, cases_lt, cause_of, ended_block}
+use Rattle.sc_blocks.proofs.Common.{get_or}
 use Rattle.sc_blocks.proofs.Common.{get_or-set_same, put_at, put_into, true}
 use Rattle.sc_blocks.proofs.Common.{inl, inr, laid_out, length, length-set, living, put_in, refl, slice_get, slice_set}
 use Rattle.sc_blocks.proofs.Common.{slot_among, slot_block, store_cell, stored_in, subst, sym, variable, variable_or}
-use Rattle.sc_blocks.proofs.Common.{ℕ, ◌++◌, ◌+◌, ◌<◌, ◌∙◌, ◌∷◌, ◌≡◌, ◌⊎◌}
+use Rattle.sc_blocks.proofs.Common.{ℕ, ◌++◌, ◌+◌, ◌<◌, ◌∙◌, ◌∷◌, ◌≡◌}
 use Rattle.sc_blocks.proofs.Laying.{lives_at, over_at, push_laid, set_laid}
-use Rattle.sc_blocks.proofs.Living.{found_at, rising_at, new_found, old_found, rising_push, others_found, rising_set}
+use Rattle.sc_blocks.proofs.Living.{found_at, new_found, old_found, rising_push, others_found, rising_set}
 use Rattle.sc_blocks.proofs.Living.{among_at, none_past, rising_up}
 use Rattle.std.proofs.lemmas.Bool.{cases_eq}
 use Rattle.std.proofs.lemmas.Option.{get_or_from_slice_get}
@@ -305,7 +307,8 @@ put_slot slots at index cell old new there number place r h = by r (put_in old.c
       ap (λ c. Err c) (let same : cause ≡ cause_of fault = cc (sym (ap block_after q) ∙ h) in same)
 
 -- the same of an allocated block, whose slot was found
-module _ (variables heap : List Slot) (made at : ℕ) (p : Pointer) (cell : Cell) (variables_rise : IsRising 0 made variables)
+module _ (variables heap : List Slot) (made at : ℕ) (p : Pointer) (cell : Cell)
+    (variables_rise : IsRising 0 made variables)
     (heap_rises : IsRising 0 made heap) (none : slot_among variables p.block ≡ None) (within_heap : at < length heap)
     (holds : HoldsAt (λ (slot : Slot). slot.number ≡ p.block) heap at) where
   abbrev bs : Blocks

@@ -2,7 +2,8 @@
 use Rattle.sc_core.specs.Prelude.{Block, Blocks, Memory, allocated_at, bind, cells_at, ended, freed, is_live}
 use Rattle.sc_core.specs.Prelude.{living, spans_of}
 unfoldable use Rattle.sc_zone.specs.Prelude.{least_free}
-use Rattle.std.specs.Prelude.{ℕ, Bool, true, false, if◌then◌else◌, nat_lt, List, [], ◌∷◌, ◌++◌, length, map, Option, None, Some}
+use Rattle.std.specs.Prelude.{ℕ, Bool, true, false, if◌then◌else◌, nat_lt, List, [], ◌∷◌, ◌++◌, length, map, Option}
+use Rattle.std.specs.Prelude.{None, Some}
 use Rattle.std.specs.Prelude.{Result, Ok, Err, slice_get, slice_set, slice_index_or}
 use Rattle.sc_core.specs.declared.cause.Cause.{Cause}
 use Rattle.sc_core.specs.declared.cause.Cause.TheVariants as cause

@@ -1,7 +1,8 @@
 -- Helping: the blocks of a row that live, by rising numbers, and the row that they are. Variables and allocated blocks
 -- stand apart.
 use Rattle.sc_core.specs.Prelude.{Block, spans_of, variable}
-use Rattle.std.specs.Prelude.{ℕ, zero, suc, ◌≡◌, ◌≤◌, if◌then◌else◌, ◌==◌, nat_lt, Bool, true, false, is_some, List, [], ◌∷◌, ◌++◌, map, replicate, Option, None, Some}
+use Rattle.std.specs.Prelude.{ℕ, zero, suc, ◌≡◌, ◌≤◌, if◌then◌else◌, ◌==◌, nat_lt, Bool, true, false, is_some, List}
+use Rattle.std.specs.Prelude.{[], ◌∷◌, ◌++◌, map, replicate, Option, None, Some}
 use Rattle.std.specs.Prelude.{◌⊎◌}
 use Rattle.sc_core.specs.declared.value.Cell.{Cell}
 use Rattle.sc_core.specs.declared.value.Cell.TheVariants.{Undef}

@@ -1,4 +1,4 @@
-ghost use Rattle.std.specs.Prelude.{◌≡◌, ◌<◌, ◌^◌, ℕ, [], ◌∷◌, ◌++◌, length, replicate, IfOk, IfSome, OnOk, OnErr, Ok};
+ghost use Rattle.std.specs.Prelude.{◌≡◌, ◌<◌, ◌^◌, [], ◌∷◌, ◌++◌, length, replicate, IfOk, IfSome, OnOk, OnErr, Ok};
 ghost use Rattle.std.specs.Prelude.{Err, MatchResult, IsTrue, option_map, slice_get};
 ghost use Rattle.sc_core.specs.declared.value.Cell.TheVariants.{Undef};
 ghost use Rattle.sc_core.specs.Memory.{variable, with_blocks};
@@ -10,7 +10,7 @@ use crate::cells::Cells;
 use crate::row::Row;
 use crate::{BadFree, BlockFault};
 use sc_base::OutOfMemory;
-use sc_core::{Cell, Pointer};
+use sc_core::Cell;
 use sc_event::CompId;
 use std::alloc::Global;
 use std::marker::Model;
@@ -102,8 +102,8 @@ impl Blocks {
         self.add(comp, cells)
     }
 
-    /// A new block of `words` cells in which nothing was stored yet, from the least place of the compartment's zone from
-    /// which they are free (C11 7.22.3.4). Its number; `None` where they are free from none, or are none.
+    /// A new block of `words` cells in which nothing was stored yet, from the least place of the compartment's zone
+    /// from which they are free (C11 7.22.3.4). Its number; `None` where they are free from none, or are none.
     pub fn allocate(&mut self, comp: CompId, words: u64) -> Result<Option<u64>, OutOfMemory>
         requires { length (memory_of self.old comp) < 2 ^ 63 }
         ensures number { IfOk result (λ number. number ≡
@@ -123,8 +123,8 @@ impl Blocks {
         Ok(Some(number))
     }
 
-    /// Frees what a pointer is to, which is the start of an allocated block that lives (C11 7.22.3.3). Null is none, and
-    /// nothing is done.
+    /// Frees what a pointer is to, which is the start of an allocated block that lives (C11 7.22.3.3). Null is none,
+    /// and nothing is done.
     pub fn free(&mut self, comp: CompId, pointer: Cell) -> Result<(), BadFree>
         requires { IsTrue (is_place pointer) }
         ensures value { MatchResult result

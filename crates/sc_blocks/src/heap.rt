@@ -1,11 +1,11 @@
-ghost use Rattle.std.specs.Prelude.{◌≡◌, ◌<◌, ◌≤◌, ℕ, [], ◌∷◌, ◌++◌, length, replicate, is_some, slice_get, Option, if◌then◌else◌};
+ghost use Rattle.std.specs.Prelude.{◌≡◌, ◌<◌, ◌≤◌, ℕ, [], ◌∷◌, ◌++◌, length, replicate, is_some, slice_get, Option};
+ghost use Rattle.std.specs.Prelude.{if◌then◌else◌};
 ghost use Rattle.std.specs.Prelude.{Err, IfOk, IfSome, MatchResult, Ok, OnErr, OnOk, Some, option_and_then};
 ghost use Rattle.std.specs.List.{remove, remove_range};
 ghost use Rattle.sc_core.specs.declared.value.Cell.TheVariants.{Undef};
 ghost use Rattle.sc_blocks.specs.Cells.{put_at};
 ghost use Rattle.sc_blocks.specs.Rows.{cause_of};
 ghost use Rattle.sc_blocks.specs.Slots.{IsRising, has_place, spans_in, with_slot, without, zone_spans};
-ghost use Rattle.sc_blocks.specs.declared.slots.Slot.{Slot as HeapSlot};
 ghost use Rattle.sc_zone.specs.Zone.{least_free, taken, without_span};
 
 use crate::BlockFault;

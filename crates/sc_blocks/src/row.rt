@@ -1,4 +1,5 @@
-ghost use Rattle.std.specs.Prelude.{◌≡◌, ◌<◌, ◌^◌, [], ◌∷◌, ◌++◌, length, is_some, IfOk, OnOk, OnErr, Ok, Err, MatchResult, IfSome};
+ghost use Rattle.std.specs.Prelude.{◌≡◌, ◌<◌, ◌^◌, [], ◌∷◌, ◌++◌, length, is_some, IfOk, OnOk, OnErr, Ok, Err};
+ghost use Rattle.std.specs.Prelude.{MatchResult, IfSome};
 ghost use Rattle.std.specs.Prelude.{MatchOption, Some, slice_get};
 ghost use Rattle.std.specs.Option.{option_copied};
 ghost use Rattle.sc_core.specs.declared.value.Cell.TheVariants.{Ptr, Word};
@@ -74,8 +75,8 @@ impl Row {
         Ok(())
     }
 
-    /// One more block of `words` cells in which nothing was stored yet, from the least place of the zone from which they
-    /// are free; whether there is one.
+    /// One more block of `words` cells in which nothing was stored yet, from the least place of the zone from which
+    /// they are free; whether there is one.
     #[tactic(auto, using(crate::proofs::Laying::length_laid))]
     pub fn allocate(&mut self, alloc: Global, words: u64) -> Result<bool, OutOfMemory>
         requires { length self.old < 2 ^ 63 }

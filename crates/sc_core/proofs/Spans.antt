@@ -7,6 +7,7 @@ use Rattle.sc_core.specs.declared.value.Value.{Value}
 use Rattle.std.proofs.Common.{arith, if◌then◌else◌, replicate, slice_get, slice_set, sym}
 use Rattle.std.proofs.Common.{true, zero, ⊎_elim, ◌++◌, ◌<◌, ◌≢◌, ◌≤◌}
 use Rattle.std.proofs.lemmas.Bool.{cases_lt}
+use Rattle.std.proofs.lemmas.List.{length-replicate}
 use Rattle.std.proofs.lemmas.Option.{same_Some}
 use Rattle.std.specs.Prelude.{fold}
 use Rattle.std.specs.List.{list_all, remove}
@@ -38,15 +39,11 @@ pub spans_begun : (blocks : Blocks) (cells : List ℕ) (args : List Value) →
 spans_begun blocks cells args =
     spans_append [] blocks (blocks_for cells args) ∙ spans_variables (spans_of blocks) cells args
 
-pub length_blank : (n : ℕ) → length (replicate n cell.Undef) ≡ n
-length_blank zero = refl
-length_blank (suc n) = ap suc (length_blank n)
-
 pub spans_allocated : (blocks : Blocks) (place words : ℕ) →
     spans_of (blocks ++ allocated_at place words ∷ []) ≡ with_span (span_of place words) (spans_of blocks)
 spans_allocated blocks place words =
     spans_append [] blocks (allocated_at place words ∷ []) ∙
-    ap (λ n. with_span (span_of place n) (spans_of blocks)) (length_blank words)
+    ap (λ n. with_span (span_of place n) (spans_of blocks)) (length-replicate words cell.Undef)
 
 -- Blocks that change.
 

@@ -1,6 +1,5 @@
 -- The combinators of the meaning, of trees and of code alike: pieces of a run, how control leaves statements, and
--- loops.
--- What a run carries beside its state is a parameter `A`: nothing in trees, temporaries in three-address code.
+-- loops. What a run carries beside its state is a parameter `A`: nothing in trees, temporaries in three-address code.
 use Rattle.sc_core.specs.Common.{Event}
 use Rattle.std.specs.Prelude.{ℕ, zero, suc, ◌*◌, ◌++◌, List, [], ◌∷◌, length, Option, None, Some, Result, Ok, Err}
 use Rattle.std.specs.Prelude.{if◌then◌else◌}
@@ -15,8 +14,7 @@ use Rattle.sc_core.specs.Memory.{Blocks, Memory, allocated_at, freed, spans_of, 
 use Rattle.sc_core.specs.Value.{count_in, is_true}
 
 -- a frame of a function of this compartment begins or ends, when the trace has `emitted` events; its frame size is
--- `size`
--- bytes
+-- `size` bytes
 pub data FrameChange : Type 0 where
   Opened : (emitted comp size : ℕ) → FrameChange
   Closed : (emitted comp size : ℕ) → FrameChange

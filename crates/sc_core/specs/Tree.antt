@@ -1,6 +1,7 @@
 -- What expressions give and what statements do, as folds of the typed trees (C11 6.5, 6.8).
 use Rattle.sc_core.specs.Common.{BinaryOp}
-use Rattle.std.specs.Prelude.{ℕ, pos, ◌+◌, ◌*◌, ◌%◌, ◌^◌, Bool, ◌||◌, if◌then◌else◌, List, [], ◌∷◌, map, Option, None, Some}
+use Rattle.std.specs.Prelude.{ℕ, pos, ◌+◌, ◌*◌, ◌%◌, ◌^◌, Bool, ◌||◌, if◌then◌else◌, List, [], ◌∷◌, map, Option, None}
+use Rattle.std.specs.Prelude.{Some}
 use Rattle.std.specs.Prelude.{Result, Ok}
 use Rattle.sc_core.specs.declared.cause.Cause.{Cause}
 use Rattle.sc_base.specs.declared.op.BinaryOp.TheVariants as op
@@ -22,7 +23,7 @@ use Rattle.sc_core.specs.declared.value.Value.{Value}
 use Rattle.sc_core.specs.declared.value.Value.TheVariants.{Word, Null, Ptr}
 use Rattle.sc_core.specs.declared.value.Want.{Want}
 use Rattle.sc_core.specs.declared.value.Want.TheVariants as want
-use Rattle.sc_core.specs.Memory.{Blocks, bind, load, store, with_blocks}
+use Rattle.sc_core.specs.Memory.{Blocks, bind, load, store}
 use Rattle.sc_core.specs.Value.{Arith, is_true, of_bool, moved, moved_on, moved_back, between, on_words, applied_one}
 use Rattle.sc_core.specs.Types.{is_unsigned, is_array, is_pointer, target_cells}
 use Rattle.sc_core.specs.Combinators.{State, Here, Piece, and_then, computed, Next, Break, Continue, Return, Does}

@@ -102,9 +102,8 @@ pub fn deepest_is_reached()
     ensures { DeepestIsReached }
 {}
 
-/// Each change of frames is of a moment within the trace, the greatest depth is the stack depth at one before the
-/// cut, a
-/// call that returns leaves the stack depths as they were, and no call emits the end of the run.
+/// Each change of frames is of a moment within the trace, the greatest depth is the stack depth at one before the cut,
+/// a call that returns leaves the stack depths as they were, and no call emits the end of the run.
 pub fn depths_are_kept()
     ensures { DepthsAreKept }
 {}

@@ -13,6 +13,7 @@ use Rattle.std.specs.Prelude.{slice_index_or}
 use Rattle.std.proofs.Common.{get_or-set_other, get_or-set_same}
 use Rattle.sc_core.specs.Prelude.{Here, Memory, allocated, allocated_at, placed, spans_of}
 use Rattle.sc_core.specs.declared.expr.CallTarget.TheVariants.{Input}
+use Rattle.std.proofs.lemmas.List.{length-replicate}
 use Rattle.sc_core.specs.declared.value.Cell.TheVariants as cell
 use Rattle.rv_code.specs.Registers.{a1}
 use Rattle.rv_code.specs.declared.instr.Instr.TheVariants.{Ecall}
@@ -30,7 +31,7 @@ use Rattle.sc_emit_relation.proofs.Frames.{get_back}
 use Rattle.sc_core.proofs.LaidSpans.{IsTaken, is_taken, missed, span_of}
 use Rattle.sc_emit_relation.proofs.Opening.{more_cell, no_cell}
 use Rattle.sc_emit_relation.proofs.Settling.{leads_rezoned, settled_rezoned}
-use Rattle.sc_core.proofs.Spans.{length_blank, misses_lying, spans_allocated}
+use Rattle.sc_core.proofs.Spans.{misses_lying, spans_allocated}
 
 -- a word of the zone of a compartment with a heap is its data
 zone_data : (image : ImageParts) (c a : ℕ) → has_heap image c ≡ true → zone_start c ≤ a →
@@ -121,7 +122,7 @@ module _ {image : ImageParts} {performs : ℕ → Bool} {floor : ℕ → ℕ} {i
       origin_of k b cells found (whence k b found.block found.at)
 
   long : (cells : List Cell) → replicate words cell.Undef ≡ cells → words ≡ length cells
-  long cells e = sym (length_blank words) ∙ ap length e
+  long cells e = sym (length-replicate words cell.Undef) ∙ ap length e
 
   at_new : (k b d : ℕ) → k ≡ c → b ≡ first → more k b ≡ Some d → a ≡ d
   at_new k b d e f is_at = same_Some a d (sym (more_new k b e f) ∙ is_at)

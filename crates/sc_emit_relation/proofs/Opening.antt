@@ -15,7 +15,7 @@ use Rattle.sc_emit_hart.proofs.Words.{stack_data, stack_owned}
 use Rattle.sc_emit_relation.proofs.Access.{LivingBlock, alive, living_block}
 use Rattle.sc_emit_relation.proofs.Frames.{get_back, object_inside, object_there, objects_apart, own_beside, own_inside}
 use Rattle.sc_emit_relation.proofs.Held.{Grows, stands_more}
-use Rattle.sc_core.proofs.Spans.{length_blank}
+use Rattle.std.proofs.lemmas.List.{length-replicate}
 use Rattle.sc_emit_relation.proofs.Storing.{block_owned, in_cell}
 
 -- a word of other data lies outside a part of a stack
@@ -203,7 +203,8 @@ module _ (image : ImageParts) (performs : ℕ → Bool) (floor : ℕ → ℕ) (i
     fits_by o block xs new ex = ⊎_elim
         (λ p. (let long : length xs ≡ 1 = ap length (ex ∙ p.2) in
         omega (arith, long, ready.params o new.size (slice_get_within args o p.0 p.1) new.its)))
-        (λ q. (let long : length xs ≡ new.size = ap length (ex ∙ q) ∙ length_blank new.size in omega (arith, long)))
+        (λ q. (let long : length xs ≡ new.size = ap length (ex ∙ q) ∙ length-replicate new.size cell.Undef in
+        omega (arith, long)))
         new.holds
 
     object_of : (o : ℕ) (block : Block) (xs : List Cell) → New cells args o block → xs ≡ block.cells → HasObject o xs

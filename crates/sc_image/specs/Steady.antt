@@ -1,7 +1,6 @@
 -- The steady states: those that a run may go on from, whether or not a run reaches them. The start is one, and each
--- step keeps it so.
--- They differ from one another in all that a compartment may hold: its data, its zone's blocks, its registers, and its
--- numbers on the cross stack.
+-- step keeps it so. They differ from one another in all that a compartment may hold: its data, its zone's blocks, its
+-- registers, and its numbers on the cross stack.
 use Rattle.sc_image.specs.Common.{Call, End, Entry, Event, Export, HoldsBytes, In, Out, Ret}
 use Rattle.std.specs.Prelude.{◌≡◌, ◌≢◌, ℕ, suc, ◌<◌, List, [], ◌∷◌, length, map, fold, All, slice_get, Option}
 use Rattle.sc_image.specs.declared.parts.ImageParts.{ImageParts}

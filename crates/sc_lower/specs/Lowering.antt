@@ -10,9 +10,8 @@ use Rattle.sc_event.specs.declared.event.Event.{Event}
 use Rattle.sc_lower.specs.Programs.{lowered_function, lowered_program}
 
 -- Code runs as a program does, in each arithmetic: its traces, its ends and the compartments that are blamed are the
--- same
--- wherever a run is stopped, also where compartments perform their parts of a trace. Code has no lines, so these may
--- differ.
+-- same wherever a run is stopped, also where compartments perform their parts of a trace. Code has no lines, so these
+-- may differ.
 pub record MeansTheSame (program : ProgramTree) (code : TacTree) : Type 0 where
   pub meaning : (arith : Arith) (inputs : List ℕ) (turns : ℕ) →
       RunsAgree (run_of arith program inputs turns) (code_run arith code inputs turns)

@@ -6,7 +6,7 @@ use Rattle.sc_event.specs.declared.interface.Interfaces.{Interfaces}
 use Rattle.sc_core.specs.declared.explanation.Link.{Link}
 use Rattle.sc_policy.specs.declared.policy.Rule.{Rule}
 use Rattle.sc_monitor.specs.Matching.{matches}
-use Rattle.sc_monitor.specs.Verdict.{goal_of, is_compromised, rule_for, verdict_from}
+use Rattle.sc_monitor.specs.Verdict.{goal_of, rule_for, verdict_from}
 use Rattle.sc_monitor.specs.declared.verdict.Verdict.TheVariants.{Holds}
 
 -- no rule is for an event of the trace
@@ -15,8 +15,7 @@ pub record NamesNoEvent (rules : List Rule) (interfaces : Interfaces) (trace : L
       slice_get trace k ≡ Some event → matches interfaces rule.pattern event ≡ false
 
 -- the event that follows the first `after` ones is a violation: its compartment commits it, the events before it lead
--- to
--- a state without one, and the rule that it takes there is the one of this number and has no goal
+-- to a state without one, and the rule that it takes there is the one of this number and has no goal
 pub record IsViolation (rules : List Rule) (interfaces : Interfaces) (links : List Link) (trace : List Event)
     (after comp rule : ℕ) : Type 0 where
   pub event : Event

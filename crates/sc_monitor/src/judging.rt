@@ -1,7 +1,7 @@
 //! The automaton of a policy on the events of a trace.
 
 ghost use Rattle.sc_monitor.specs.Places.{matches_at};
-ghost use Rattle.sc_monitor.specs.Verdict.{goal_of, is_compromised, move_at, rule_for, verdict};
+ghost use Rattle.sc_monitor.specs.Verdict.{is_compromised, move_at, rule_for, verdict};
 ghost use Rattle.std.specs.Prelude.{◌≡◌, ◌<◌, ◌^◌, length, position, IfSome};
 
 use crate::Verdict;
@@ -19,8 +19,7 @@ enum Move {
 }
 
 /// The first violation of the policy in the trace, or the state in which the policy stands after the trace. An event
-/// takes
-/// the first rule of the present state whose pattern it matches.
+/// takes the first rule of the present state whose pattern it matches.
 pub fn judge(policy: &Policy, interfaces: &Interfaces, explanation: &Explanation) -> Verdict
     requires { length explanation.now.trace < 2 ^ 32 }
     ensures { result ≡ verdict policy.now interfaces.now explanation.now }

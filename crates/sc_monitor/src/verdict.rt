@@ -8,8 +8,7 @@ pub enum Verdict {
         state: u16,
     },
     /// The event that follows the first `after` events is the first violation. The compartment `comp` performs it, by
-    /// the
-    /// rule of this number, counted from 1. It was compromised where it had been replaced by then, and else it is
+    /// the rule of this number, counted from 1. It was compromised where it had been replaced by then, and else it is
     /// clean.
     Violated {
         after: u32,

@@ -45,7 +45,8 @@ pub use Rattle.sc_parse.specs.Prelude.{SpellsDeclarator, SpellsDirectives, Spell
 pub use Rattle.sc_parse.specs.Prelude.{SpellsParam, SpellsParams, SpellsPart, SpellsPlace, SpellsResult, SpellsSection}
 pub use Rattle.sc_parse.specs.Prelude.{SpellsStars, SpellsStmtKind, SpellsStmts, SpellsStruct, SpellsTest}
 pub use Rattle.sc_parse.specs.Prelude.{SpellsTypeName, SpellsValue, a_function, a_part, a_result, a_struct, a_test}
-pub use Rattle.sc_parse.specs.Prelude.{a_value, absent, add_arg, add_global, add_local, add_member, after_inner_comma, allocate}
+pub use Rattle.sc_parse.specs.Prelude.{a_value, absent, add_arg, add_global, add_local, add_member, after_inner_comma}
+pub use Rattle.sc_parse.specs.Prelude.{allocate}
 pub use Rattle.sc_parse.specs.Prelude.{all_separated, array, assign, assign_call, base_by, before_mark, begins_call}
 pub use Rattle.sc_parse.specs.Prelude.{begins_struct, begins_value, begins_with, block, call, call_tree, change_at}
 pub use Rattle.sc_parse.specs.Prelude.{change_of, changed, choice, compartment_at, compartment_by, compound}
@@ -69,7 +70,8 @@ pub use Rattle.sc_parse.specs.Prelude.{struct_tree, type_name, type_of, unary_pl
 pub use Rattle.sc_parse.specs.Prelude.{unstepped, value_assigned}
 pub use Rattle.sc_parse.specs.Prelude.{updates, value_returned, while_loop, whole_line, with_line}
 unfoldable pub use Rattle.sc_parse.specs.Prelude.{adds, after_else, after_for, after_if, after_while, args_at}
-unfoldable pub use Rattle.sc_parse.specs.Prelude.{allocated_at, assigned_at, assignment_at, base_at, begins_head, block_at, body_at}
+unfoldable pub use Rattle.sc_parse.specs.Prelude.{allocated_at, assigned_at, assignment_at, base_at, begins_head}
+unfoldable pub use Rattle.sc_parse.specs.Prelude.{block_at, body_at}
 unfoldable pub use Rattle.sc_parse.specs.Prelude.{call_at, condition_at, const_at, consts_at, decl_at, declaration_at}
 unfoldable pub use Rattle.sc_parse.specs.Prelude.{declarator_at, else_at, ended_at, expr_at, first_part, for_head}
 unfoldable pub use Rattle.sc_parse.specs.Prelude.{function_at, global_at, grouped, head_at, headed_at, init_at}

@@ -51,13 +51,15 @@ kind_start : {A : Type 0} (f : List Lexeme → A) (value : A) → ((l : List Lex
     ((t : Lexeme) (m : Mark) (l : List Lexeme) → IsMark m t → is_some (step_of m) ≡ true → f (t ∷ l) ≡ value) →
     ((t : Lexeme) (l : List Lexeme) → IsKeyword word.Free t → f (t ∷ l) ≡ value) →
     {ts : List Lexeme} {k : SimpleKind} (d : SpellsKind ts k) (rest : List Lexeme) → f (ts ++ rest) ≡ value
-kind_start f value by_expr by_step by_free (assign {us = us} t p d v) rest = after_place f value d.0 (t ∷ us) rest by_expr
+kind_start f value by_expr by_step by_free (assign {us = us} t p d v) rest = after_place f value d.0
+    (t ∷ us) rest by_expr
 kind_start f value by_expr by_step by_free (assign_call {us = us} t p d v) rest =
     after_place f value d.0 (t ∷ us) rest by_expr
 kind_start f value by_expr by_step by_free (compound {us = us} t m op p q d v) rest =
     after_place f value d.0 (t ∷ us) rest by_expr
 kind_start f value by_expr by_step by_free (call d) rest = by_expr _ (call_starts d rest)
-kind_start f value by_expr by_step by_free (step_after t m op p q d) rest = after_place f value d.0 (t ∷ []) rest by_expr
+kind_start f value by_expr by_step by_free (step_after t m op p q d) rest = after_place f value d.0
+    (t ∷ []) rest by_expr
 kind_start f value by_expr by_step by_free (step_before t m op p q d) rest = by_step t m _ p (ap is_some q)
 kind_start f value by_expr by_step by_free (allocate {us = us} t u p q d c) rest =
     after_place f value d.0 (t ∷ u ∷ us) rest by_expr

@@ -341,7 +341,8 @@ assigned free room (both {ts = ts} {us = us} d c) rest few ends =
     let all = append_assoc ts us rest in
     let starts = ap begins_expr all ∙ expr_starts d.0.0 (us ++ rest) in
     let plain = ap begins_call all ∙ no_call d.0.0 (us ++ rest) (change_stops c rest).1 in
-    rw (no_step _ starts, expr_word is_free false refl refl _ starts, plain) ((assignment_exact free room).complete _ _ (both d c) rest few ends)
+    rw (no_step _ starts, expr_word is_free false refl refl _ starts, plain)
+    ((assignment_exact free room).complete _ _ (both d c) rest few ends)
 
 simple_complete : (free room : ℕ) → Complete (Few free) (IsSimple room) EndsSimple (simple_at free room)
 unfolding simple_at readers.step_before stepped

@@ -42,11 +42,14 @@ pub use Rattle.sc_parse.specs.Statements.{step_after, step_before, step_of, upda
 pub use Rattle.sc_parse.specs.StmtReaders.{add_arg, always, args_in_parens, before_mark, begins_value, call_statement}
 pub use Rattle.sc_parse.specs.StmtReaders.{call_tree, change_at, change_of, changed, for_parts, free_statement, is_free}
 pub use Rattle.sc_parse.specs.StmtReaders.{is_if, is_malloc, kind_by, loop_of, makes_value, malloc_by, malloc_of}
-pub use Rattle.sc_parse.specs.StmtReaders.{mark_at, mark_by, placed, product_by, simple_or_none, simple_tree, sized_type}
-pub use Rattle.sc_parse.specs.StmtReaders.{step_at, stmt_tree, stmts_at, unary_place, unfreed, unstepped, value_assigned}
+pub use Rattle.sc_parse.specs.StmtReaders.{mark_at, mark_by, placed, product_by, simple_or_none, simple_tree}
+pub use Rattle.sc_parse.specs.StmtReaders.{sized_type}
+pub use Rattle.sc_parse.specs.StmtReaders.{step_at, stmt_tree, stmts_at, unary_place, unfreed, unstepped}
+pub use Rattle.sc_parse.specs.StmtReaders.{value_assigned}
 pub use Rattle.sc_parse.specs.StmtReaders.{value_returned}
 unfoldable pub use Rattle.sc_parse.specs.StmtReaders.{after_else, after_for, after_if, after_while, args_at}
-unfoldable pub use Rattle.sc_parse.specs.StmtReaders.{allocated_at, assigned_at, assignment_at, block_at, call_at, condition_at}
+unfoldable pub use Rattle.sc_parse.specs.StmtReaders.{allocated_at, assigned_at, assignment_at, block_at, call_at}
+unfoldable pub use Rattle.sc_parse.specs.StmtReaders.{condition_at}
 unfoldable pub use Rattle.sc_parse.specs.StmtReaders.{else_at, ended_at, expr_at, first_part, for_head, last_part}
 unfoldable pub use Rattle.sc_parse.specs.StmtReaders.{middle_part, operand_at, part_at, place_at, plain_at, returned}
 unfoldable pub use Rattle.sc_parse.specs.StmtReaders.{simple_at, stepped, stmt_at, stmt_within, test_at}

@@ -1,4 +1,4 @@
--- Helping: reading types from left to right.
+-- Reading types from left to right.
 use Rattle.sc_parse_expr.specs.Common.{BaseTree, TypeName}
 use Rattle.std.specs.Prelude.{ℕ, Bool, true, false, List, Option, Some, None, drop, if◌then◌else◌}
 use Rattle.std.specs.List.{prefix_len}

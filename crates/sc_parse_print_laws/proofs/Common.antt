@@ -67,7 +67,8 @@ pub use Rattle.sc_ast.specs.declared.types.BaseTree.{BaseTree}
 pub use Rattle.sc_ast.specs.declared.types.TypeName.{TypeName}
 pub use Rattle.sc_ast.specs.declared.types.TypeTree.{TypeTree}
 pub use Rattle.sc_parse_expr.specs.Prelude.{IsMark, Spells, arrow, binary_of, index, joined, lexeme_of, literal, looser}
-pub use Rattle.sc_parse_expr.specs.Prelude.{member, or_unused, parenthesised, prefix_of, prefixed, size_of, symbol_of, variable}
+pub use Rattle.sc_parse_expr.specs.Prelude.{member, or_unused, parenthesised, prefix_of, prefixed, size_of, symbol_of}
+pub use Rattle.sc_parse_expr.specs.Prelude.{variable}
 pub use Rattle.sc_parse_expr.specs.Prelude.{«prefix»}
 unfoldable pub use Rattle.sc_parse_expr.specs.Prelude.{keyword_of, mark_of, says}
 pub use Rattle.sc_parse_expr.specs.declared.mark.Keyword.{Keyword}
@@ -85,7 +86,8 @@ pub use Rattle.sc_parse_print_laws.specs.Prelude.{SectionSpells, StmtsReadAs, St
 pub use Rattle.sc_parse_print_laws.specs.Prelude.{are_kept, decls_text, dense_decl, dense_text, dense_words, expr_text}
 pub use Rattle.sc_parse_print_laws.specs.Prelude.{is_kept, is_kept_decl, is_kept_stmt, kept_base, kept_call, kept_const}
 pub use Rattle.sc_parse_print_laws.specs.Prelude.{kept_export, kept_function, kept_global, kept_head, kept_import}
-pub use Rattle.sc_parse_print_laws.specs.Prelude.{kept_init, kept_kind, kept_length, kept_local, kept_malloc, kept_member}
+pub use Rattle.sc_parse_print_laws.specs.Prelude.{kept_init, kept_kind, kept_length, kept_local, kept_malloc}
+pub use Rattle.sc_parse_print_laws.specs.Prelude.{kept_member}
 pub use Rattle.sc_parse_print_laws.specs.Prelude.{kept_name}
 pub use Rattle.sc_parse_print_laws.specs.Prelude.{kept_option, kept_param, kept_place, kept_result, kept_section}
 pub use Rattle.sc_parse_print_laws.specs.Prelude.{kept_simple, kept_step, kept_struct, kept_type, kept_value, some_kept}

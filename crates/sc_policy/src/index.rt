@@ -7,8 +7,7 @@ use std::alloc::Global;
 use std::marker::Model;
 
 /// For each state the places of its rules, so that they are found without a walk over all rules. Contracts see the
-/// lists;
-/// a state without one has no rules.
+/// lists; a state without one has no rules.
 #[derive(Drop)]
 pub(crate) struct Index {
     places: Vec<Items<u16>>,

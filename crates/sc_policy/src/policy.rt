@@ -70,9 +70,8 @@ pub enum Pattern {
     },
 }
 
-/// What an event of the pattern does in this state: it leads to another state, or it is a violation where the rule
-/// has no
-/// goal. States are places in the list of a policy's states.
+/// What an event of the pattern does in this state: it leads to another state, or it is a violation where the rule has
+/// no goal. States are places in the list of a policy's states.
 #[derive(Drop)]
 pub struct Rule {
     pub state: u16,

@@ -1,6 +1,5 @@
 //! The texts that list interfaces, report runs, explanations and verdicts, and those of made programs: what the
-//! commands
-//! write.
+//! commands write.
 #![tactic(auto)]
 
 mod chain;

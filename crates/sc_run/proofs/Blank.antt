@@ -14,7 +14,7 @@ use Rattle.std.proofs.lemmas.Option.{slice_get-map}
 use Rattle.std.specs.Option.{option_map}
 use Rattle.std.specs.Prelude.{fold}
 use Rattle.sc_zone.specs.declared.span.Span.{Span}
-use Rattle.sc_core.specs.Prelude.{count_ways, freed, over, spans_of, with_block, without_block}
+use Rattle.sc_core.specs.Prelude.{freed, over, spans_of, with_block, without_block}
 use Rattle.sc_core.specs.declared.cause.Cause.TheVariants.{BadFree}
 use Rattle.sc_core.specs.declared.value.Value.TheVariants.{Null}
 use Rattle.sc_core.specs.declared.value.Pointer.{Pointer}
@@ -280,10 +280,6 @@ module _ (structs : List TypedStruct) where
 
     pub way_same : (e : TypedExpr) → WaySame (ways c_arith structs here params e)
     way_same e = expr_induction Same layer_same e
-
-    pub count_same : (count : Option TypedExpr) → WaySame (count_ways c_arith structs here params count)
-    count_same None = λ wish bs. refl
-    count_same (Some e) = way_same e
 
     pub values_same : (es : List TypedExpr) (bs : Blocks) → values (map (ways c_arith structs here params) es)
         (blank bs) ≡ values (map (ways c_arith structs here params) es) bs

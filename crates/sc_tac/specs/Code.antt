@@ -251,10 +251,6 @@ abbrev pub scripted_code_meaning : TacTree → (ℕ → Bool) → List Event →
 scripted_code_meaning program set trace inputs turns events =
     scripted_code_by c_arith program set trace inputs turns events
 
-abbrev pub scripted_code_wrapped : TacTree → (ℕ → Bool) → List Event → List ℕ → ℕ → ℕ → SourceRun
-scripted_code_wrapped program set trace inputs turns events =
-    scripted_code_by wrapping program set trace inputs turns events
-
 -- the greatest stack depth of a compartment
 abbrev pub code_depth_by : Arith → TacTree → List ℕ → ℕ → ℕ → ℕ → ℕ
 code_depth_by arith program inputs turns events comp = depth_in (code_run arith program inputs turns) events comp

@@ -11,8 +11,7 @@ abbrev pub comp_of : Link → ℕ
 comp_of link = link.comp
 
 -- the compartments that perform their parts of the trace in a text of the chain: those of the first `links` links, or
--- of
--- all where there are fewer
+-- of all where there are fewer
 abbrev pub performers : Explanation → (links : ℕ) → (comp : ℕ) → Bool
 performers explanation links = is_listed (map comp_of (take links explanation.links))
 
@@ -35,10 +34,8 @@ abbrev pub links_until : Explanation → (after : ℕ) → ℕ
 links_until explanation after = length (filter (λ link. nat_le link.after after) explanation.links)
 
 -- The event that follows the first `after` ones is committed in the text after the links until then: what the text
--- means
--- begins with the trace up to this event and with the event. Where the compartment that performs it isn't compromised
--- its
--- section stands in that text as it was read, byte for byte.
+-- means begins with the trace up to this event and with the event. Where the compartment that performs it isn't
+-- compromised its section stands in that text as it was read, byte for byte.
 pub record IsCommitted (source : SourceParts) (inputs : List ℕ) (steps : ℕ) (explanation : Explanation)
     (after comp : ℕ) (compromised : Bool) : Type 0 where
   pub there : after < length explanation.trace

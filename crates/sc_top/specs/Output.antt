@@ -110,9 +110,8 @@ judge_text policy source explanation =
     explain_text source.program.interfaces explanation ++
     verdict_text policy.states source.program.interfaces (verdict policy source.program.interfaces explanation)
 
--- the bytes begin with a policy, the text that follows is explained, and this is the report with the policy's
--- verdict. A
--- violation is committed in the chain: in one of its texts, by source code where the compartment isn't compromised
+-- the bytes begin with a policy, the text that follows is explained, and this is the report with the policy's verdict.
+-- A violation is committed in the chain: in one of its texts, by source code where the compartment isn't compromised
 pub record IsJudged (options : RunOptions) (bytes text : List ℕ) : Type 0 where
   pub read : PolicyRead
   pub is : IsPolicyRead bytes read

@@ -38,8 +38,7 @@ pub fn one_output()
 }
 
 /// What `compile` writes is good input of `exec`, which writes for it what `run` writes for the text: the same trace
-/// and
-/// stop, by the same names.
+/// and stop, by the same names.
 pub fn compiled_images_run()
     ensures { CompiledImagesRun }
 {

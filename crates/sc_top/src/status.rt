@@ -50,9 +50,8 @@ pub enum Status {
     WriteFault,
     /// Memory ran out before anything was written.
     OutOfMemory,
-    /// The bytes begin with no policy: the first line with which none begins, counted from 1. 4294967295 is the
-    /// number of
-    /// all later lines.
+    /// The bytes begin with no policy: the first line with which none begins, counted from 1. 4294967295 is the number
+    /// of all later lines.
     BadPolicy { line: u32 },
 }
 

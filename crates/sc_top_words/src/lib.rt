@@ -24,8 +24,7 @@
 //! | N of `--seed` | 0 to 4,294,967,295 | |
 //!
 //! A number is one decimal digit or more, with no sign but the `-` of an integer. A list that begins with `-` is
-//! written
-//! `--in=-5,3`.
+//! written `--in=-5,3`.
 #![tactic(auto)]
 
 mod application;

@@ -1,6 +1,6 @@
 -- Operators that answer on all words, results taken modulo 2 ^ 32 and shift counts modulo 32: each is one instruction,
--- or a few.
--- Those that are an instruction's own definition (unsigned sums, quotients, shifts to the right) are left out.
+-- or a few. Those that are an instruction's own definition (unsigned sums, quotients, shifts to the right) are left
+-- out.
 use Rattle.std.specs.Prelude.{ℕ, pos, ◌≡◌, ◌+ℤ◌, ◌-ℤ◌, ◌*ℤ◌, neg_ℤ, ◌%◌, ◌^◌, ◌<◌, Bool, not, ◌&&◌, ◌||◌, ◌==◌, int_lt}
 use Rattle.std.specs.Prelude.{nat_lt, if◌then◌else◌, bit_and, bit_or, bit_xor}
 use Rattle.sc_word.specs.Word.{signed_of, word_of}

@@ -1,4 +1,4 @@
--- Helping: blocks that don't meet, the gaps between them, and the search for the first one that is wide enough.
+-- Blocks that don't meet, the gaps between them, and the search for the first one that is wide enough.
 use Rattle.sc_zone.specs.Zone.{zone_words}
 use Rattle.std.specs.Prelude.{◌≡◌, ℕ, zero, suc, ◌+◌, ◌<◌, ◌≤◌, List, [], ◌∷◌, drop}
 use Rattle.sc_zone.specs.declared.span.Span.{Span}

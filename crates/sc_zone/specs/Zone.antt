@@ -1,6 +1,5 @@
 -- Zones: the blocks that were taken from one and not given back, in the order of their places. A block is taken from
--- the
--- least place from which its words are free (first fit).
+-- the least place from which its words are free (first fit).
 use Rattle.std.specs.Prelude.{ℕ, zero, suc, ◌+◌, Bool, ◌&&◌, ◌||◌, ◌==◌, nat_le, nat_lt, List, [], ◌∷◌, Option, None}
 use Rattle.std.specs.Prelude.{Some, if◌then◌else◌}
 use Rattle.std.specs.List.{list_all, list_any}

@@ -4,7 +4,8 @@ use Rattle.sc_blocks.proofs.Memories.{a_number, memory_changed, no_number, row_i
 use Rattle.sc_blocks.proofs.blocks.Blocks.allocate.Goals as goal
 
 pub allocate-requires : goal.allocate-requires
-allocate-requires c = subst (λ blocks. length blocks < 2 ^ 63) (sym (row_is c.self.inside.rows.items (memory_of c.args.self.now) c.number.result c.args.comp
+allocate-requires c = subst (λ blocks. length blocks < 2 ^ 63) (sym (row_is c.self.inside.rows.items
+    (memory_of c.args.self.now) c.number.result c.args.comp
     c.index_mut-row.result.now (ap memory_of c.self.view_is ∙
     c.in_ok-make_row.ensures.same) c.number.ensures.number
     (subst (λ rows. c.args.comp < length rows) (sym c.self.view_is) c.in_ok-make_row.ensures.there)
@@ -23,7 +24,8 @@ returns-then-not-some-clause-number c =
     c.if-not-some.true)
 
 pub returns-then-not-some-clause-made : goal.returns-then-not-some-clause-made
-returns-then-not-some-clause-made c = memory_changed c.self.inside.rows.items (memory_of c.args.self.now) c.number.result c.args.comp
+returns-then-not-some-clause-made c = memory_changed c.self.inside.rows.items
+    (memory_of c.args.self.now) c.number.result c.args.comp
     c.index_mut-row.result.now c.allocate.new.self (λ row. with_words c.args.words (free_place row c.args.words) row)
     (ap memory_of c.self.view_is ∙ c.in_ok-make_row.ensures.same) c.number.ensures.number
     (subst (λ rows. c.args.comp < length rows) (sym c.self.view_is) c.in_ok-make_row.ensures.there)

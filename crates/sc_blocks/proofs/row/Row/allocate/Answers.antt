@@ -17,7 +17,8 @@ pub returns-then-some-clause-made : goal.returns-then-some-clause-made
 returns-then-some-clause-made c = allocated_makes c.self.inside.slots.items c.self.inside.heap c.self.inside.made
     c.self.invariant.0 c.self.invariant.1 c.self.invariant.2 c.allocate.new.self c.args.words _
     (sym c.in_ok-some.ensures.there ∙ c.if-some.true) c.in_ok-some.ensures.made ∙
-    (λ i. with_words c.args.words (place_now c.self.inside.slots.items c.self.inside.heap c.self.inside.made c.self.invariant.0
+    (λ i. with_words c.args.words (place_now c.self.inside.slots.items c.self.inside.heap c.self.inside.made
+    c.self.invariant.0
     c.self.invariant.1 c.self.invariant.2 c.args.words c.args.self.now c.self.view_is i)
     (c.self.view_is i))
 
@@ -30,6 +31,7 @@ pub returns-else-some-clause-made : goal.returns-else-some-clause-made
 returns-else-some-clause-made c = allocated_none c.self.inside.slots.items c.self.inside.heap c.self.inside.made
     c.self.invariant.0 c.self.invariant.1 c.self.invariant.2 c.allocate.new.self c.args.words _
     (sym c.in_ok-some.ensures.there ∙ c.if-some.false) c.in_ok-some.ensures.made ∙
-    (λ i. with_words c.args.words (place_now c.self.inside.slots.items c.self.inside.heap c.self.inside.made c.self.invariant.0
+    (λ i. with_words c.args.words (place_now c.self.inside.slots.items c.self.inside.heap c.self.inside.made
+    c.self.invariant.0
     c.self.invariant.1 c.self.invariant.2 c.args.words c.args.self.now c.self.view_is i)
     (c.self.view_is i))

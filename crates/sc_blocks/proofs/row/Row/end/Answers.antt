@@ -20,7 +20,8 @@ remove-requires-clause-order c =
 pub invariant_of-self : goal.invariant_of-self
 invariant_of-self c =
     kept_without c.self.inside.slots.items c.remove.new.slots.items c.self.inside.heap c.end.new.self c.self.inside.made
-    c.args.first c.saturating_add-end.result c.self.invariant.0 c.self.invariant.1 c.self.invariant.2 (left_without c.self.inside.slots.items c.remove.new.slots.items 0 c.self.inside.made c.lower-from.result
+    c.args.first c.saturating_add-end.result c.self.invariant.0 c.self.invariant.1 c.self.invariant.2
+    (left_without c.self.inside.slots.items c.remove.new.slots.items 0 c.self.inside.made c.lower-from.result
     c.lower-to.result c.args.first c.saturating_add-end.result c.self.invariant.0
     (omega (arith, c.saturating_add-end.ensures))
     (counted c.self.inside.slots.items c.as_slice.result.now 0 c.self.inside.made c.args.first c.lower-from.result
@@ -32,7 +33,8 @@ invariant_of-self c =
 pub returns : goal.returns
 returns c =
     row_without c.self.inside.slots.items c.remove.new.slots.items c.self.inside.heap c.end.new.self c.self.inside.made
-    c.args.first c.args.count c.saturating_add-end.result (left_without c.self.inside.slots.items c.remove.new.slots.items 0 c.self.inside.made c.lower-from.result
+    c.args.first c.args.count c.saturating_add-end.result
+    (left_without c.self.inside.slots.items c.remove.new.slots.items 0 c.self.inside.made c.lower-from.result
     c.lower-to.result c.args.first c.saturating_add-end.result c.self.invariant.0
     (omega (arith, c.saturating_add-end.ensures))
     (counted c.self.inside.slots.items c.as_slice.result.now 0 c.self.inside.made c.args.first c.lower-from.result

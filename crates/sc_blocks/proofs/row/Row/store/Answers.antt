@@ -1,6 +1,6 @@
-use Rattle.sc_blocks.proofs.Common.{Err, HoldsAt, IsOver, MatchResult, Ok, Slot, ap, bind, block_at, cause_of, get_or, laid_out}
-use Rattle.sc_blocks.proofs.Common.{length, put_in, refl, slice_get, slice_set, store_cell, subst, ◌<◌, ◌∙◌, ◌≡◌}
-use Rattle.sc_core.specs.declared.value.Cell.TheVariants.{Ptr}
+use Rattle.sc_blocks.proofs.Common.{HoldsAt, IsOver, Ok, Slot, ap, bind, block_at, get_or}
+use Rattle.sc_blocks.proofs.Common.{laid_out}
+use Rattle.sc_blocks.proofs.Common.{length, put_in, refl, slice_get, slice_set, subst, ◌<◌, ◌∙◌, ◌≡◌}
 use Rattle.sc_blocks.proofs.Storing.{allocated_stored, apart_after, lost_is_over, none_at, over_dangles, rising_after}
 use Rattle.sc_blocks.proofs.Storing.{row_after, slot_at, stored, stored_keeps, variable_lives}
 use Rattle.sc_blocks.proofs.row.Row.store.Goals as goal
