@@ -1,19 +1,21 @@
 #!/usr/bin/env python3
-"""Compares `secomp meaning` with gcc and with clang's undefined-behaviour sanitizer, on texts from seeds.
+"""Compares `secomp meaning` with gcc and with clang's sanitizers, on texts from seeds.
 
 The texts are those of `outsider_texts.py`. Each is turned into C by its tokens: names get a prefix for their
 compartment, imports become functions that print the events, and `#line` keeps the lines of the sections. It is compiled
-by `gcc -O0`, `gcc -O2` and `clang -O0 -fsanitize=undefined`, which ends the run at the first error, and compared with
-the meaning:
+by `gcc -O0`, `gcc -O2` and `clang -O0 -fsanitize=address,undefined`, which ends the run at the first error, and
+compared with the meaning:
 
-- Where the meaning isn't blamed, all three have its trace to the end, and the sanitizer reports nothing.
-- Where it is blamed for a cause that the sanitizer looks for, the sanitizer reports this cause at this line, after the
-  same events.
-- Where it is blamed for another cause, the sanitizer's run has the events up to there without an error between them.
+- Where the meaning isn't blamed, all three have its trace to the end, and the sanitizers report nothing.
+- Where it is blamed for a cause that the sanitizers look for, they report this cause at this line, after the same
+  events.
+- Where it is blamed for another cause, the sanitizers' run has the events up to there without an error between them.
 
-The sanitizer doesn't look for Dangling, Indeterminate, BadType, BadPointer and NoReturn, for OutOfBounds other than in
+The sanitizers don't look for Dangling, Indeterminate, BadType, BadPointer and NoReturn, for OutOfBounds other than in
 `a[i]`, `&a[i]` and `a + i` of an array `a`, and for NullUse where pointers are ordered or subtracted. Lines in which
-one of the latter two may come are marked, `// bounds unchecked` and `// null unchecked`: there it may report nothing.
+one of the latter two may come are marked, `// bounds unchecked` and `// null unchecked`: there they may report nothing.
+In lines marked `// heap checked` an allocated block is used after its end or beyond its bounds, or what can't be is
+freed; there they report Dangling, OutOfBounds and BadFree.
 
 Where the language fixes what C leaves open or says otherwise, the texts keep clear of the difference:
 
@@ -25,6 +27,7 @@ Where the language fixes what C leaves open or says otherwise, the texts keep cl
   Clang goes as the meaning does, but in `x op= e` it begins with `e`: on such lines the cause isn't compared.
 - A right shift of a negative value keeps the sign, and conversions to `int` keep the bits: both compilers choose so.
 - An inner call of `main` doesn't come, and a local doesn't hide a function.
+- `sizeof` is an `unsigned int` here and wider in C, so it gets a cast; a `malloc` of nothing is null in both.
 
 usage: bench/outsider.py [--texts N] [--seed S] [--secomp PROGRAM] [--keep DIR]
 """
@@ -39,17 +42,22 @@ import tempfile
 from concurrent.futures import ThreadPoolExecutor
 
 sys.dont_write_bytecode = True
-from outsider_texts import BOUNDS, NULL, Maker
+from outsider_texts import BOUNDS, HEAP, NULL, Maker
 
 TOP = os.path.dirname(os.path.dirname(os.path.realpath(__file__)))
 BATCH = 20
 NEVER = {"Dangling", "Indeterminate", "BadType", "BadPointer", "NoReturn"}
-KINDS = [("ZeroDivisor", "division by zero"), ("BadShift", "shift exponent"), ("OutOfBounds", "out of bounds"),
+KINDS = [("Dangling", "use-after-free|double-free"), ("BadFree", "not malloc"),
+         ("OutOfBounds", "out of bounds|buffer-overflow"),
+         ("ZeroDivisor", "division by zero"), ("BadShift", "shift exponent"),
          ("NullUse", "null pointer"), ("Overflow", "signed integer overflow|cannot be represented|left shift of")]
 RUNTIME = """int dprintf(int, const char *, ...);
 int atoi(const char *);
 unsigned alarm(unsigned);
 void _exit(int);
+void *malloc(unsigned long);
+void free(void *);
+#define malloc(bytes) ((bytes) ? malloc(bytes) : 0)
 static int taken, events;
 static void count(void) { if (++events > 5000) _exit(3); }
 #define SAY(...) (count(), dprintf(1, __VA_ARGS__))
@@ -58,9 +66,9 @@ static void count(void) { if (++events > 5000) _exit(3); }
 COMMANDS = {
     "gcc -O0": ["gcc", "-O0"],
     "gcc -O2": ["gcc", "-O2"],
-    "clang": ["clang", "-O0", "-fsanitize=undefined", "-fno-sanitize-recover=undefined"],
+    "clang": ["clang", "-O0", "-gline-tables-only", "-fsanitize=address,undefined", "-fno-sanitize-recover=undefined"],
 }
-KEYWORDS = set("int signed unsigned void struct if else while for break continue return".split())
+KEYWORDS = set("int signed unsigned void struct if else while for break continue return sizeof malloc free".split())
 
 
 def wrapper(body, section, owner, name, mark):
@@ -97,6 +105,7 @@ def translate(text, inputs, mark):
         ends += [wrapper(body, name, *each, mark) for each in re.findall(r"(?m)^#pragma import (\w+) (\w+)$", rest)]
         tokens = r"(?s)/\*.*?\*/|//[^\n]*|\d\w*|[A-Za-z_]\w*"
         body = re.sub(tokens, lambda found, start=mark + name + "_": named(found[0], start), body)
+        body = body.replace("sizeof(", "(unsigned)sizeof(")
         body = re.sub(r"(?ms)^(int \w+_main\(void\) \{\n.*?)^\}$", r"\1return 0; }", body, count=1)
         out.append('#line 2 "%s%s"\n%s' % (mark, name, body))
         if "_main(void) {" in body:
@@ -143,6 +152,7 @@ class Case:
             return "trace before the blame", False
         line = self.line(section, number)
         silent = cause in NEVER or cause == "OutOfBounds" and BOUNDS in line or cause == "NullUse" and NULL in line
+        silent = silent and HEAP not in line
         if at != len(self.events):
             return ("" if silent else "nothing reported"), False
         place, message = lines[at].split(": runtime error: ")
@@ -167,10 +177,18 @@ def compiled(command, cases, folder, name):
 
 def lines_of(path, case):
     """What a compiled text prints, and its status."""
-    options = "symbolize=0:handle_segv=0:handle_sigbus=0:handle_sigfpe=0:print_summary=0"
+    options = "handle_segv=0:handle_sigbus=0:handle_sigfpe=0:print_summary=0:detect_leaks=0"
     run = subprocess.run([path, str(case.seed)], stdout=subprocess.PIPE, stderr=subprocess.STDOUT,
-                         env=dict(os.environ, UBSAN_OPTIONS=options), check=False)
-    return run.stdout.decode(errors="replace").splitlines() + ["status %d" % run.returncode]
+                         env=dict(os.environ, ASAN_OPTIONS=options, UBSAN_OPTIONS=options), check=False)
+    return one_line(run.stdout.decode(errors="replace"), case.mark) + ["status %d" % run.returncode]
+
+
+def one_line(text, mark):
+    """The lines of a run; a report of the address sanitizer as one line of the form that the other one's have."""
+    events, found, report = text.partition("ERROR: AddressSanitizer: ")
+    place = re.search(r"/(%s[A-Za-z]\w*:\d+)" % mark, report)
+    lines = [line for line in events.splitlines() if not re.match("=+$|==[0-9]+==$", line)]
+    return lines + (["%s: runtime error: %s" % (place[1] if place else "", report.splitlines()[0])] if found else [])
 
 
 def judge(seeds, program):

@@ -74,7 +74,11 @@ FAULTS = ["""
 OPERATORS = "||,&&,|,^,&,== !=,< > <= >=,<< >>,+ -,* / %"
 LEVELS = {op: level for level, ops in enumerate(OPERATORS.split(","), 1) for op in ops.split()}
 PREFIX, LEAF = 11, 12
-BOUNDS, NULL = "  // bounds unchecked", "  // null unchecked"
+BOUNDS, NULL, HEAP = "  // bounds unchecked", "  // null unchecked", "  // heap checked"
+# What goes wrong with an allocated block of {n} elements, before and after it is freed.
+BLOCK_FAULTS = [
+    "{h}[{n}] = {y}; {x} = {h}[-1]; {x} = *({h} + {n}); {x} = {h}[{n} + 1]; free({h} + 1); free(&gi)".split("; "),
+    "{x} = *{h}; {h}[0] = {y}; free({h}); free(&{h}[0])".split("; ")]
 Expr = collections.namedtuple("Expr", "text level unsigned")
 Var = collections.namedtuple("Var", "name base size")
 Function = collections.namedtuple("Function", "name result parameters cost owner shared recursive")
@@ -114,7 +118,7 @@ class Section:
         self.table = Var("t", "struct node", 1 + draw.below(5))
         variables = self.scalars + self.arrays + [Var("gi", "int", 0), Var("s", "struct node", 0), self.table]
         self.head = ["%s %s%s;" % (each.base, each.name, self.initial(each, draw)) for each in variables]
-        self.head += ["int *gp = 0;", "struct node *list;"]
+        self.head += ["int *gp = 0;", "struct node *list;", "struct node *heap;"]
 
     @staticmethod
     def initial(var, draw):
@@ -455,6 +459,48 @@ class Body(Expressions):
             self.add("  %s = %s->next;" % (w, w))
         return self.add("}")
 
+    def blocks(self):
+        """A block that is allocated, filled, used and freed."""
+        h, i, size = self.local("h8", "int *"), self.local("i9", "int "), 1 + self.draw.below(9)
+        array = Var(h, "int", size)
+        self.cost += size * self.times
+        forms = ["{0} * sizeof(int)", "({0} + 0u) * sizeof(signed)", "1 * {0} * sizeof(int)", "(9 - (9 - {0})) * sizeof(int)"]
+        form = "sizeof(int)" if size == 1 else self.draw.pick(forms)
+        self.add("%s = malloc(%s);" % (h, form.format(size)))
+        if not self.draw.chance(self.flaw / 4):
+            self.add("for (%s = 0; %s < %d; %s++) { %s[%s] = %s; }" % (i, i, size, i, h, i, self.value()))
+        for _ in range(self.draw.below(4)):
+            place = "%s[%s]" % (h, self.draw.below(size))
+            left, right = self.draw.pick([(place, self.value()), (self.target(), "%s ^ 1" % place)])
+            self.add("%s = %s;" % (left, right))
+        self.block_fault(array, 0)
+        self.add("free(%s);" % h)
+        self.block_fault(array, 1)
+
+    def block_fault(self, array, freed):
+        """Sometimes a line of `BLOCK_FAULTS`."""
+        if self.draw.chance(self.flaw):
+            x, y = self.target(), self.draw.pick(self.scalars).name
+            line = self.draw.pick(BLOCK_FAULTS[freed])
+            self.add(line.format(h=array.name, n=array.size, x=x, y=y) + ";" + HEAP)
+
+    def nodes(self):
+        """Puts an allocated element into a list, or takes the first one out and frees it."""
+        w, member = self.local("w8", "struct node *"), self.section.members[0][0]
+        if self.draw.chance(0.5):
+            self.cost += self.times
+            self.add("%s = malloc(sizeof(struct node));" % w)
+            self.add("%s->%s = %s;" % (w, member, self.value()))
+            self.add("%s->next = heap;" % w)
+            return self.add("heap = %s;" % w)
+        self.add("if (heap) {")
+        self.add("  %s = heap;" % w)
+        if not self.draw.chance(self.flaw):
+            self.add("  heap = %s->next;" % w)
+        self.add("  %s ^= %s->%s;" % (self.draw.pick(self.scalars).name, w, member))
+        self.add("  free(%s);" % w)
+        return self.add("}")
+
     def common(self):
         """Sets or uses the global pointer."""
         kind = self.draw.below(4)
@@ -485,6 +531,7 @@ class Body(Expressions):
         """One statement of a kind drawn by weight, or some that belong together."""
         kinds = [self.assign, self.output] * 6 + [self.update, self.call] * 5 + [self.branch] * 3
         kinds += [self.loop, self.walk] * 2 + [self.members, self.chain, self.common, self.common, self.helpers]
+        kinds += [self.blocks] * 2 + [self.nodes] * 2
         kinds += [self.leave] if self.draw.chance(0.3) else []
         kinds = [self.fault] if self.draw.chance(self.flaw / 2) else kinds
         if self.depth > 5:

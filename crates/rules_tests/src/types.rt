@@ -99,6 +99,24 @@ const MOVES: [Row; 31] = [
     b"@int k = s; @@int k = 1, l = 2, *m = 3;",
 ];
 
+const HEAP: [Row; 9] = [
+    // `sizeof` is an `unsigned int`.
+    b"i = sizeof(int); u = sizeof(struct S) + 1; p = p + sizeof(int); a[sizeof(int) - 4] = sizeof(int *) == 4;",
+    b"@p = sizeof(int); @@i = *sizeof(int); @@i = sizeof(struct S).n; @@r = &sizeof(int); @@i = p == sizeof(int);",
+    // What is allocated is what the place points to.
+    b"p = malloc(sizeof(int)); r = malloc(u * sizeof(unsigned)); t = malloc(3 * sizeof(struct S)); \
+      pp = malloc(sizeof(int *)); *pp = malloc(sizeof(signed)); s.next = malloc(sizeof(struct S)); \
+      t->q = malloc((p - q) * sizeof(int)); w = malloc(sizeof(int) * sizeof(struct T));",
+    b"@p = malloc(sizeof(unsigned)); @@r = malloc(sizeof(int)); @@p = malloc(sizeof(int *)); @@pp = malloc(sizeof(int));",
+    b"@t = malloc(sizeof(struct T)); @@t = malloc(sizeof(struct S *)); @@i = malloc(sizeof(int)); @@a = malloc(sizeof(int));",
+    b"@s = malloc(sizeof(struct S)); @@s.list = malloc(sizeof(int));",
+    // The count is an integer.
+    b"@p = malloc(p * sizeof(int)); @@p = malloc(s * sizeof(int)); @@p = malloc((p + 1) * sizeof(int));",
+    // What is freed is a pointer, or a literal of value 0.
+    b"free(p); free(pp); free(t); free(a); free(0); free(0u); free((0)); free(&i); free(p + 1); free(s.next);",
+    b"@free(i); @@free(1); @@free(-0); @@free(s); @@free(u); @@free(sizeof(int)); @@free(p == q); @@free(0 + 0);",
+];
+
 // Each stands after a compartment line, and before `main`.
 const DECLARED: [Row; 43] = [
     // A global begins with an integer if it is one.
@@ -252,6 +270,13 @@ fn values(rt: HostRuntime) -> Result<(), Fail> {
 #[test]
 fn moves(rt: HostRuntime) -> Result<(), Fail> {
     let wrong = wrong_rows(rt.alloc(), STATEMENTS, Phase::Types, &MOVES)?;
+    assert!(rt; wrong.is_empty(), "{wrong:?}");
+    Ok(())
+}
+
+#[test]
+fn heap(rt: HostRuntime) -> Result<(), Fail> {
+    let wrong = wrong_rows(rt.alloc(), STATEMENTS, Phase::Types, &HEAP)?;
     assert!(rt; wrong.is_empty(), "{wrong:?}");
     Ok(())
 }

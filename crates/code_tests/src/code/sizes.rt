@@ -1,7 +1,7 @@
 // The code of whole programs: how many temporaries, instructions at most and branches each function has, beside its
 // nodes.
 use chain_texts::programs::{LEFT_OUT, LOOPS, STORE};
-use code_texts::{MEMBERS, lowered};
+use code_texts::{BLOCKS, MEMBERS, lowered};
 use sc_base::OutOfMemory;
 use sc_tac::Tac;
 use std::alloc::Global;
@@ -29,10 +29,11 @@ fn sizes_of(alloc: Global, code: &Tac) -> Result<Vec<Sizes>, OutOfMemory> {
 
 #[test]
 fn code_has_these_sizes(rt: HostRuntime) -> Result<(), Fail> {
-    let cases: [(&[u8], &[Sizes]); 4] = [
+    let cases: [(&[u8], &[Sizes]); 5] = [
         (STORE, &[(6, 78, 0, 10), (4, 89, 0, 10)]),
         (LOOPS, &[(25, 426, 5, 48)]),
         (LEFT_OUT, &[(11, 185, 3, 17)]),
+        (BLOCKS, &[(25, 435, 1, 47)]),
         (MEMBERS, &[(16, 326, 1, 33), (9, 155, 0, 18)]),
     ];
     for (text, want) in cases {
