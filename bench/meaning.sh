@@ -1,10 +1,10 @@
 #!/bin/sh
 # Times `secomp meaning` on small programs of 16,777,216 turns, and the same programs as C, compiled by
-# `clang -O0 -fsanitize=undefined`.
+# `clang -O0 -fsanitize=undefined`; one that allocates, with `address` beside it.
 # Usage: bench/meaning.sh [PROGRAM]. PROGRAM is a built secomp (by default what ./secomp runs).
 # It prints, for each program, turns per second of both and how many times as long the meaning takes. A cross call is two
 # events, and a run has 4,096 events at most, so cross calls are timed over many runs of 2,048 calls each, less as many runs
-# that stop at once.
+# that stop at once. At the end are the seconds of recursions 1,000 and 10,000 deep that allocate at each level.
 set -e
 top=$(cd "$(dirname "$0")/.." && pwd)
 program=${1:-$top/secomp}
@@ -48,6 +48,43 @@ int main(void) {
   return 0;
 }
 TEXT
+cat > "$work/heap" <<'TEXT'
+#pragma compartment Main
+int main(void) {
+  unsigned i, k;
+  unsigned *p;
+  for (i = 0; i < 986895u; i++) {
+    p = malloc(16 * sizeof(unsigned));
+    for (k = 0; k < 16u; k++) {
+      p[k] = i;
+    }
+    free(p);
+  }
+  return 0;
+}
+TEXT
+cat > "$work/deep" <<'TEXT'
+#pragma compartment Main
+int down(int n) {
+  int *p;
+  if (n == 0) {
+    return 0;
+  }
+  p = malloc(sizeof(int));
+  *p = down(n - 1);
+  n = *p;
+  free(p);
+  return n;
+}
+int main(void) {
+  int i;
+  int last;
+  for (i = 0; i < ROUNDS; i++) {
+    last = down(DEPTH);
+  }
+  return last;
+}
+TEXT
 cat > "$work/cross" <<'TEXT'
 #pragma compartment Main
 #pragma import Other next
@@ -83,7 +120,7 @@ best() {
 
 meaning() { "$program" meaning --turns $turns < "$1"; }
 short_runs() { for run in $(seq 100); do "$program" meaning --events "$2" < "$1" > "$work/out"; done; }
-compile() { clang -O0 -fsanitize=undefined -w -x c "$1" -o "$work/native"; }
+compile() { clang -O0 -fsanitize="${2:-undefined}" -w -x c "$1" -o "$work/native"; }
 tell() { awk "BEGIN { printf \"%-7s meaning %.1f million/s  clang %.1f million/s  %.1f times as long\\n\", \"$1\", $2 / 1e6, $3 / 1e6, $3 / $2 }"; }
 per_second() { awk "BEGIN { print $1 / $2 }"; }
 
@@ -93,9 +130,17 @@ for name in loop calls stores; do
     tell $name "$(per_second $turns "$(best meaning "$work/$name")")" "$(per_second $turns "$(best "$work/native")")"
 done
 
+{ echo 'void *malloc(unsigned long); void free(void *);'; cat "$work/heap"; } > "$work/heap.c"
+compile "$work/heap.c" address,undefined
+tell heap "$(per_second $turns "$(best meaning "$work/heap")")" "$(per_second $turns "$(best "$work/native")")"
+
 sed 's/ROUNDS/2048u/' "$work/cross" > "$work/few"
 sed 's/ROUNDS/8388608u/' "$work/cross" > "$work/many"
 whole=$(best short_runs "$work/few" 4096)
 empty=$(best short_runs "$work/few" 0)
 compile "$work/many"
 tell cross "$(awk "BEGIN { print 100 * 4096 / ($whole - $empty) }")" "$(per_second $turns "$(best "$work/native")")"
+
+sed 's/ROUNDS/100/; s/DEPTH/1000/' "$work/deep" > "$work/shallow"
+sed -i 's/ROUNDS/10/; s/DEPTH/10000/' "$work/deep"
+echo "100 recursions 1,000 deep $(best meaning "$work/shallow") s, 10 of 10,000 $(best meaning "$work/deep") s"

@@ -19,7 +19,7 @@ int main(void) {
 #pragma export keep
 struct record {
   int value;
-  int unused[4095];
+  int unused[16383];
 };
 int keep(int value) {
   struct record *r;

@@ -6,6 +6,8 @@ use crate::examples::runs::Session;
 pub(crate) enum Input {
     Endless,
     Full,
+    Inbox,
+    Leak,
     Messages,
     Bounds,
     Budget,
@@ -13,6 +15,7 @@ pub(crate) enum Input {
     Order,
     Sealed,
     Silence,
+    Queue,
     Reentry,
     Refused,
     Seven,
@@ -26,6 +29,8 @@ impl Input {
         match self {
             Input::Endless => ENDLESS_TEXT,
             Input::Full => FULL_TEXT,
+            Input::Inbox => INBOX_TEXT,
+            Input::Leak => LEAK_TEXT,
             Input::Messages => MESSAGES_TEXT,
             Input::Bounds => BOUNDS_TEXT,
             Input::Budget => BUDGET_TEXT,
@@ -33,6 +38,7 @@ impl Input {
             Input::Order => ORDER_TEXT,
             Input::Sealed => SEALED_TEXT,
             Input::Silence => SILENCE_TEXT,
+            Input::Queue => QUEUE_TEXT,
             Input::Reentry => REENTRY_TEXT,
             Input::Refused => REFUSED_TEXT,
             Input::Seven => SEVEN_TEXT,
@@ -79,6 +85,75 @@ int up_to(int n) {
   terms[0] = n;
   r = up_to(n - 1);
   return r + terms[0];
+}
+";
+
+const INBOX_TEXT: &[u8] = b"#pragma compartment Main
+#pragma import Inbox receive
+#pragma import Env output
+int receive(int words);
+void output(int v);
+int main(void) {
+  int trusted;
+  trusted = receive(4);
+  output(trusted);
+  return 0;
+}
+#pragma compartment Inbox
+#pragma export receive
+#pragma import Env input
+int input(void);
+int receive(int words) {
+  int *message;
+  int *trusted;
+  int i;
+  message = malloc(4 * sizeof(int));
+  trusted = malloc(sizeof(int));
+  if (message == 0 || trusted == 0) {
+    return 0;
+  }
+  *trusted = 0;
+  for (i = 0; i <= words; i++) {
+    message[i] = input();
+  }
+  i = *trusted;
+  free(message);
+  free(trusted);
+  return i;
+}
+";
+
+const LEAK_TEXT: &[u8] = b"#pragma compartment Main
+#pragma import Store keep
+#pragma import Env output
+int keep(int value);
+void output(int v);
+int main(void) {
+  int kept;
+  int more;
+  kept = 0;
+  more = keep(kept);
+  while (more) {
+    kept = kept + 1;
+    more = keep(kept);
+  }
+  output(kept);
+  return 0;
+}
+#pragma compartment Store
+#pragma export keep
+struct record {
+  int value;
+  int unused[16383];
+};
+int keep(int value) {
+  struct record *r;
+  r = malloc(sizeof(struct record));
+  if (r == 0) {
+    return 0;
+  }
+  r->value = value;
+  return 1;
 }
 ";
 
@@ -561,6 +636,77 @@ int main(void) {
     place = input();
   }
   return 0;
+}
+";
+
+const QUEUE_TEXT: &[u8] = b"#pragma compartment Main
+#pragma import Queue put
+#pragma import Queue take
+#pragma import Queue clear
+#pragma import Env input
+#pragma import Env output
+void put(int value);
+int take(void);
+void clear(void);
+int input(void);
+void output(int v);
+int main(void) {
+  int request;
+  int value;
+  request = input();
+  while (request != 0) {
+    if (request == 1) {
+      value = input();
+      put(value);
+    } else if (request == 2) {
+      value = take();
+      output(value);
+    } else {
+      clear();
+    }
+    request = input();
+  }
+  return 0;
+}
+#pragma compartment Queue
+#pragma export put
+#pragma export take
+#pragma export clear
+struct message {
+  int value;
+  struct message *next;
+};
+struct message *first;
+void put(int value) {
+  struct message *m;
+  m = malloc(sizeof(struct message));
+  if (m != 0) {
+    m->value = value;
+    m->next = first;
+    first = m;
+  }
+}
+int take(void) {
+  struct message *m;
+  int value;
+  if (first == 0) {
+    return -1;
+  }
+  m = first;
+  value = m->value;
+  first = m->next;
+  free(m);
+  return value;
+}
+void clear(void) {
+  struct message *m;
+  struct message *next;
+  m = first;
+  while (m != 0) {
+    next = m->next;
+    free(m);
+    m = next;
+  }
 }
 ";
 
@@ -1056,6 +1202,31 @@ stop trap owner 0x0130006c
 chain 0
 ",
     },
+    Session {
+        words: "explain --in 1,7,3,1,8,2,0",
+        input: Input::Queue,
+        want: b"in Main 1
+in Main 7
+call Main Queue put 7
+ret Queue Main
+in Main 3
+call Main Queue clear
+ret Queue Main
+in Main 1
+in Main 8
+call Main Queue put 8
+ret Queue Main
+in Main 2
+call Main Queue take
+ret Queue Main 8
+out Main 8
+in Main 0
+end Main 0
+stop ended
+chain 1
+replace Queue after 10 Dangling line 15
+",
+    },
 ];
 
 // Of examples/README.md.
@@ -1155,6 +1326,73 @@ chain 0
         want: b"out Main 0
 out Main 1
 stop turns
+",
+    },
+    Session {
+        words: "meaning --in 1,7,3,3,0",
+        input: Input::Queue,
+        want: b"in Main 1
+in Main 7
+call Main Queue put 7
+ret Queue Main
+in Main 3
+call Main Queue clear
+ret Queue Main
+in Main 3
+call Main Queue clear
+stop blamed Queue Dangling 34
+",
+    },
+    Session {
+        words: "explain --in 1,7,3,3,0",
+        input: Input::Queue,
+        want: b"in Main 1
+in Main 7
+call Main Queue put 7
+ret Queue Main
+in Main 3
+call Main Queue clear
+ret Queue Main
+in Main 3
+call Main Queue clear
+stop trap badfree 0x01100170
+chain 0
+",
+    },
+    Session {
+        words: "explain --in 1,2,3,4,1",
+        input: Input::Inbox,
+        want: b"call Main Inbox receive 4
+in Inbox 1
+in Inbox 2
+in Inbox 3
+in Inbox 4
+in Inbox 1
+ret Inbox Main 1
+out Main 1
+end Main 0
+stop ended
+chain 1
+replace Inbox after 6 OutOfBounds line 16
+",
+    },
+    Session {
+        words: "explain",
+        input: Input::Leak,
+        want: b"call Main Store keep 0
+ret Store Main 1
+call Main Store keep 1
+ret Store Main 1
+call Main Store keep 2
+ret Store Main 1
+call Main Store keep 3
+ret Store Main 1
+call Main Store keep 4
+ret Store Main 0
+out Main 4
+end Main 0
+stop ended
+chain 0
 ",
     },
     Session {
