@@ -56,6 +56,90 @@ int main(void) {
 }
 ";
 
+/// Three blocks that are freed in each order, beside one for which the zone has no place.
+const ORDERS: &[u8] = b"#pragma compartment Main
+#pragma import Pool release
+#pragma import Env output
+int release(int first, int second);
+void output(int v);
+int main(void) {
+  int i;
+  int j;
+  int sum;
+  for (i = 0; i < 3; i++) {
+    for (j = 0; j < 3; j++) {
+      if (i != j) {
+        sum = release(i, j);
+        output(sum);
+      }
+    }
+  }
+  return 0;
+}
+#pragma compartment Pool
+#pragma export release
+int *blocks[3];
+int release(int first, int second) {
+  int i;
+  int *whole;
+  int sum = 0;
+  for (i = 0; i < 3; i++) {
+    blocks[i] = malloc((i + 1) * sizeof(int));
+    blocks[i][0] = i + 5;
+  }
+  whole = malloc(65536 * sizeof(int));
+  free(blocks[first]);
+  blocks[first] = malloc(2 * sizeof(int));
+  blocks[first][0] = 9;
+  for (i = 0; i < 3; i++) {
+    sum += blocks[i][0];
+  }
+  free(blocks[second]);
+  free(blocks[first]);
+  free(blocks[3 - first - second]);
+  return sum + (whole == 0);
+}
+";
+
+/// A block that is freed once more by the compartment that was asked to free it twice, after others' events.
+const FREED_TWICE: &[u8] = b"#pragma compartment Main
+#pragma import A take
+#pragma import B hold
+#pragma import Env output
+int take(int n);
+void hold(void);
+void output(int v);
+int main(void) {
+  int n;
+  n = take(0);
+  hold();
+  n = take(1);
+  output(n);
+  n = take(1);
+  output(n);
+  return n;
+}
+#pragma compartment A
+#pragma export take
+int *kept;
+int take(int back) {
+  if (back) {
+    free(kept);
+    return 1;
+  }
+  kept = malloc(3 * sizeof(int));
+  kept[2] = 4;
+  return 0;
+}
+#pragma compartment B
+#pragma export hold
+unsigned *mine;
+void hold(void) {
+  mine = malloc(sizeof(unsigned));
+  *mine = sizeof(unsigned *);
+}
+";
+
 const DIVISION_BY_ZERO: &[u8] = b"#pragma compartment Main
 #pragma import Env output
 void output(int v);
@@ -139,6 +223,8 @@ pub const PROGRAMS: &[&[u8]] = &[
     ENDLESS_OUTPUT,
     MEMBERS,
     BLOCKS,
+    ORDERS,
+    FREED_TWICE,
     SHORT_LOOP,
     GREATEST_OUTPUT,
     DIVISION_BY_ZERO,

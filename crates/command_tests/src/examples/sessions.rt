@@ -960,63 +960,12 @@ stop ended
 ",
     },
     Session {
-        words: "explain --in 1,1,2,555,0",
-        input: Input::Messages,
-        want: b"call Main Parser next_kind
-in Parser 1
-in Parser 1
-in Parser 2
-in Parser 555
-in Parser 0
-ret Parser Main 1
-call Main Parser number
-ret Parser Main 555
-call Main Store is_key 555
-ret Store Main 0
-call Main Log note 1 0
-out Log 10
-ret Log Main
-call Main Parser next_kind
-in Parser 0
-ret Parser Main 0
-end Main 0
-stop ended
-chain 0
-",
-    },
-    Session {
         words: "meaning --in 3,1,1,2,2,99,0",
         input: Input::Messages,
         want: b"call Main Parser next_kind
 in Parser 3
 in Parser 1
 stop blamed Parser OutOfBounds 15
-",
-    },
-    Session {
-        words: "run --in 3,1,1,2,2,99,0",
-        input: Input::Messages,
-        want: b"call Main Parser next_kind
-in Parser 3
-in Parser 1
-in Parser 1
-in Parser 2
-in Parser 2
-in Parser 99
-in Parser 0
-ret Parser Main 2
-call Main Parser number
-ret Parser Main 99
-call Main Store set_key 99
-ret Store Main
-call Main Log note 2 0
-out Log 20
-ret Log Main
-call Main Parser next_kind
-in Parser 0
-ret Parser Main 0
-end Main 0
-stop ended
 ",
     },
     Session {
@@ -1134,33 +1083,6 @@ int number(void) {
   if (bt_n == 8u) { bt_n = 9u; return 99; }
   while (1) { }
 }
-",
-    },
-    Session {
-        words: "explain --in 3,1,1,2,2,99,0",
-        input: Input::Text1,
-        want: b"call Main Parser next_kind
-in Parser 3
-in Parser 1
-in Parser 1
-in Parser 2
-in Parser 2
-in Parser 99
-in Parser 0
-ret Parser Main 2
-call Main Parser number
-ret Parser Main 99
-call Main Store set_key 99
-ret Store Main
-call Main Log note 2 0
-out Log 20
-ret Log Main
-call Main Parser next_kind
-in Parser 0
-ret Parser Main 0
-end Main 0
-stop ended
-chain 0
 ",
     },
     Session {
