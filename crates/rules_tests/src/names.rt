@@ -133,8 +133,8 @@ int f(int *input) {
     // So is what stands in the forms of the heap.
     b"struct S { int n; };\nint f(struct S *s) { s = malloc(sizeof(struct S)); free(s); return sizeof(struct S *); }\n",
     b"int f(void) { `return` sizeof(struct S); } @@ int f(int a) { `a` = sizeof(struct S **); return a; }",
-    b"int f(int *p) { `p` = malloc(y * sizeof(int)); return 0; } @@ int f(int *p) { `y` = malloc(sizeof(int)); return 0; }",
-    b"int f(int *p) { `p` = malloc(sizeof(struct S)); return 0; } @@ int f(int *p) { `free`(y); return 0; }",
+    b"int f(int *p) { `p` = malloc(y * sizeof(int)); return 0; } @@ int f(int *p) { `free`(y); return 0; }",
+    b"int f(void) { `y` = malloc(sizeof(int)); } @@ int f(int *p) { `p` = malloc(sizeof(struct S)); return 0; }",
     // The least line at which a rule is broken.
     b"int f(void) { `return` y; } int x; int x; @@ int x; `int` x; int f(void) { return y; }",
     b"int f(void) { `break`; return y; } int f(void) { return 0; } struct S s;",

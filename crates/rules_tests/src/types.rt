@@ -99,7 +99,7 @@ const MOVES: [Row; 31] = [
     b"@int k = s; @@int k = 1, l = 2, *m = 3;",
 ];
 
-const HEAP: [Row; 9] = [
+const HEAP: [Row; 10] = [
     // `sizeof` is an `unsigned int`.
     b"i = sizeof(int); u = sizeof(struct S) + 1; p = p + sizeof(int); a[sizeof(int) - 4] = sizeof(int *) == 4;",
     b"@p = sizeof(int); @@i = *sizeof(int); @@i = sizeof(struct S).n; @@r = &sizeof(int); @@i = p == sizeof(int);",
@@ -107,8 +107,9 @@ const HEAP: [Row; 9] = [
     b"p = malloc(sizeof(int)); r = malloc(u * sizeof(unsigned)); t = malloc(3 * sizeof(struct S)); \
       pp = malloc(sizeof(int *)); *pp = malloc(sizeof(signed)); s.next = malloc(sizeof(struct S)); \
       t->q = malloc((p - q) * sizeof(int)); w = malloc(sizeof(int) * sizeof(struct T));",
-    b"@p = malloc(sizeof(unsigned)); @@r = malloc(sizeof(int)); @@p = malloc(sizeof(int *)); @@pp = malloc(sizeof(int));",
-    b"@t = malloc(sizeof(struct T)); @@t = malloc(sizeof(struct S *)); @@i = malloc(sizeof(int)); @@a = malloc(sizeof(int));",
+    b"@p = malloc(sizeof(unsigned)); @@r = malloc(sizeof(int)); @@p = malloc(sizeof(int *));",
+    b"@pp = malloc(sizeof(int)); @@t = malloc(sizeof(struct T)); @@t = malloc(sizeof(struct S *));",
+    b"@i = malloc(sizeof(int)); @@a = malloc(sizeof(int));",
     b"@s = malloc(sizeof(struct S)); @@s.list = malloc(sizeof(int));",
     // The count is an integer.
     b"@p = malloc(p * sizeof(int)); @@p = malloc(s * sizeof(int)); @@p = malloc((p + 1) * sizeof(int));",

@@ -134,7 +134,7 @@ const NOT_DECLARED: [Row; 24] = [
     b"`f` (void) { return 0; }",
 ];
 
-const STATED: [Row; 22] = [
+const STATED: [Row; 23] = [
     b";;",
     b"i = 1; (i) = 2; ((*p)) = 3; a[0] = 4; s.n = 5; t->n = 6; w->inner.list[1] = 7; **pp = 8;",
     b"i += 1; i -= 1; i *= 1; i /= 1; i %= 1; i <<= 1; i >>= 1; i &= 1; i ^= 1; i |= 1;",
@@ -157,13 +157,14 @@ const STATED: [Row; 22] = [
     b"i = sizeof(int); u = sizeof (signed int) + -sizeof(unsigned); a[sizeof(int) - 4] = !sizeof(struct S **);",
     b"if (sizeof(unsigned int *)) { } i = sizeof(struct T) * sizeof(signed) / 2;",
     // Blocks are allocated, their count in front of a size, and freed.
-    b"p = malloc(sizeof(int)); *pp = malloc(3 * sizeof(int)); p = malloc((i + 1) * sizeof(int)); s.q = malloc( ( sizeof(int)));",
+    b"p = malloc(sizeof(int)); *pp = malloc(3 * sizeof(int)); p = malloc((i + 1) * sizeof(int));",
+    b"s.q = malloc( ( sizeof(int))); free((0));",
     b"p = malloc((2 * sizeof(int))); p = malloc(2 * u * sizeof(int)); p = malloc(sizeof(int) * sizeof(int)); \
       for (t = malloc(i / 2 * sizeof(struct S)); i; free(t)) { } free(0); free(p + 1);",
 ];
 
 // Here too the marked token is the first that can't go on.
-const NOT_STATED: [Row; 32] = [
+const NOT_STATED: [Row; 34] = [
     // Simple statements.
     b"i `;` @@ 5 `;` @@ i `+` 1; @@ *p `;` @@ p[0] `;` @@ s.n `;` @@ (i) `;` @@ i = 1 `}` @@ i = `;` @@ `=` 1;",
     b"i `+` 1 = 2; @@ (i + 1) `=` 2; @@ 5 `=` i; @@ number(1, p) `=` 2; @@ i = j `=` 1; @@ i = (j `=` 1);",
@@ -184,11 +185,13 @@ const NOT_STATED: [Row; 32] = [
     b"number(1, `)` ; @@ number(1 `p` ); @@ number(i `=` 1, p); @@ number(1, p `;` @@ a[0] `(` 1); @@ s.n `(` 1);",
     b"5 `(` );",
     // Sizes are of types.
-    b"i = sizeof `i` ; @@ i = sizeof( `)` ; @@ i = sizeof( `void` ); @@ i = sizeof(int `[` 4]); @@ i = sizeof(struct `)` ;",
-    b"i = sizeof( `5` ); @@ i = sizeof(struct S `{` int n; }); @@ i = sizeof(int `u` ); @@ i = sizeof(int); i `sizeof` ;",
+    b"i = sizeof `i` ; @@ i = sizeof( `)` ; @@ i = sizeof( `void` ); @@ i = sizeof(int `[` 4]);",
+    b"i = sizeof(struct `)` ; @@ i = sizeof( `5` ); @@ i = sizeof(struct S `{` int n; });",
+    b"i = sizeof(int `u` ); @@ i = sizeof(int); i `sizeof` ;",
     // The argument of `malloc` ends in a size.
-    b"p = malloc(4 `)` ; @@ p = malloc(sizeof(int) * 2 `)` ; @@ p = malloc( `)` ; @@ p = malloc `;` @@ p = malloc(i `)` ;",
-    b"`malloc` (sizeof(int)); @@ i = 1 + `malloc` (sizeof(int)); @@ p += `malloc` (sizeof(int)); @@ return `malloc` (sizeof(int));",
+    b"p = malloc(4 `)` ; @@ p = malloc(sizeof(int) * 2 `)` ; @@ p = malloc( `)` ; @@ p = malloc `;`",
+    b"p = malloc(i `)` ; @@ `malloc` (sizeof(int)); @@ i = 1 + `malloc` (sizeof(int));",
+    b"p += `malloc` (sizeof(int)); @@ return `malloc` (sizeof(int));",
     // Other statements.
     b"if (i) `i` = 1; @@ if (i) { } else `i` = 1; @@ if (i) { } else `while` (i) { }",
     b"if (i) { } else { } `else` { } @@ if `i` { } @@ if ( `)` { } @@ if (i `=` 1) { } @@ if (i `{` } @@ `else` { }",
