@@ -11,7 +11,6 @@ pub(crate) enum Input {
     Messages,
     Bounds,
     Budget,
-    Key,
     Order,
     Sealed,
     Silence,
@@ -34,7 +33,6 @@ impl Input {
             Input::Messages => MESSAGES_TEXT,
             Input::Bounds => BOUNDS_TEXT,
             Input::Budget => BUDGET_TEXT,
-            Input::Key => KEY_TEXT,
             Input::Order => ORDER_TEXT,
             Input::Sealed => SEALED_TEXT,
             Input::Silence => SILENCE_TEXT,
@@ -281,99 +279,6 @@ on none call * Store is_key to one
 on one call * Store is_key to two
 on two call * Store is_key to three
 on three call * Store is_key deny
-policy end
-// A service that answers messages.
-// Main acts on them, Store has the key, Log tells what was done, and Parser reads.
-// A message is pairs of a field and what it holds, up to field 0: field 1 is the kind, and field 2 a number.
-// Kind 1 asks whether the number is the key. Kind 2 makes it the key, if the sender is trusted. Kind 0 ends.
-#pragma compartment Main
-#pragma import Parser next_kind
-#pragma import Parser number
-#pragma import Store is_key
-#pragma import Store set_key
-#pragma import Log note
-int next_kind(void);
-int number(void);
-int is_key(int guess);
-void set_key(int new_key);
-void note(int kind, int answer);
-
-int act(int kind) {
-  int value;
-  int answer = 0;
-  value = number();
-  if (kind == 1) {
-    answer = is_key(value);
-  } else if (kind == 2) {
-    set_key(value);
-  }
-  return answer;
-}
-
-int main(void) {
-  int kind;
-  int answer;
-  kind = next_kind();
-  while (kind != 0) {
-    answer = act(kind);
-    note(kind, answer);
-    kind = next_kind();
-  }
-  return 0;
-}
-#pragma compartment Store
-#pragma export is_key
-#pragma export set_key
-int key = 7341;
-
-int is_key(int guess) {
-  return guess == key;
-}
-
-void set_key(int new_key) {
-  key = new_key;
-}
-#pragma compartment Log
-#pragma export note
-#pragma import Env output
-void output(int v);
-int lines;
-
-void note(int kind, int answer) {
-  lines = (lines + 1) & 255;
-  output(kind * 10 + answer);
-}
-#pragma compartment Parser
-#pragma export next_kind
-#pragma export number
-#pragma import Env input
-int input(void);
-int fields[3];
-int trusted;
-
-int next_kind(void) {
-  int field;
-  fields[1] = 0;
-  fields[2] = 0;
-  field = input();
-  while (field != 0) {
-    fields[field] = input();
-    field = input();
-  }
-  if (fields[1] == 2 && !trusted) {
-    return 9;
-  }
-  return fields[1];
-}
-
-int number(void) {
-  return fields[2];
-}
-";
-
-const KEY_TEXT: &[u8] = b"policy Key
-state kept
-on kept call * Store set_key deny
 policy end
 // A service that answers messages.
 // Main acts on them, Store has the key, Log tells what was done, and Parser reads.
@@ -1083,35 +988,6 @@ int number(void) {
   if (bt_n == 8u) { bt_n = 9u; return 99; }
   while (1) { }
 }
-",
-    },
-    Session {
-        words: "judge --in 3,1,1,2,2,99,0",
-        input: Input::Key,
-        want: b"call Main Parser next_kind
-in Parser 3
-in Parser 1
-in Parser 1
-in Parser 2
-in Parser 2
-in Parser 99
-in Parser 0
-ret Parser Main 2
-call Main Parser number
-ret Parser Main 99
-call Main Store set_key 99
-ret Store Main
-call Main Log note 2 0
-out Log 20
-ret Log Main
-call Main Parser next_kind
-in Parser 0
-ret Parser Main 0
-end Main 0
-stop ended
-chain 1
-replace Parser after 3 OutOfBounds line 15
-verdict violated after 11 by Main rule 1 clean
 ",
     },
     Session {
