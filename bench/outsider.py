@@ -177,7 +177,7 @@ def compiled(command, cases, folder, name):
 
 def lines_of(path, case):
     """What a compiled text prints, and its status."""
-    options = "handle_segv=0:handle_sigbus=0:handle_sigfpe=0:print_summary=0:detect_leaks=0"
+    options = "handle_segv=0:handle_sigbus=0:handle_sigfpe=0:print_summary=0:detect_leaks=0:allow_addr2line=1"
     run = subprocess.run([path, str(case.seed)], stdout=subprocess.PIPE, stderr=subprocess.STDOUT,
                          env=dict(os.environ, ASAN_OPTIONS=options, UBSAN_OPTIONS=options), check=False)
     return one_line(run.stdout.decode(errors="replace"), case.mark) + ["status %d" % run.returncode]
