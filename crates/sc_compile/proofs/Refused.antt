@@ -75,11 +75,11 @@ stays _ state later is = is
 
 trapped : (image : ImageParts) (reason : TrapReason) → step image [] (start image) ≡ Traps reason →
     (events steps : ℕ) → (run image [] events steps (start image)).state ≡ start image
-unfolding run
+unfolding run_by
 trapped image reason traps events zero = stays (stopped events (start image).trace) (start image) _ refl
 trapped image reason traps events (suc steps) =
     stays (stopped events (start image).trace) (start image) _
-    (ap (λ outcome. (after (start image) outcome (run image [] events steps)).state) traps)
+    (ap (λ outcome. (after (start image).pc (start image) outcome (run image [] events steps)).state) traps)
 
 trap_is_refused : (image : ImageParts) (reason : TrapReason) → step image [] (start image) ≡ Traps reason →
     IsCompiled alone image → ⊥

@@ -34,7 +34,7 @@ module _ (image : ImageParts) (inputs : List ℕ) (events : ℕ) (state : Machin
         state = state;
         stop = unwrap_or (stopped events state.trace) StepsOut;
       }
-  unfolding run
+  unfolding run_by
   no_steps left none = rw none (no_more _)
 
   -- one of the steps that are left

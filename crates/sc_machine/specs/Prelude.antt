@@ -14,7 +14,7 @@ pub use Rattle.sc_image.specs.Prelude.{may_input, may_output, most_globals, next
 pub use Rattle.sc_image.specs.Prelude.{export_params}
 pub use Rattle.sc_image.specs.Prelude.{refused, reg, on_return, saved_sp, shift_on_registers, stack_tops, start, step}
 pub use Rattle.sc_image.specs.Prelude.{store, store_size, stretch, written}
-unfoldable pub use Rattle.sc_image.specs.Prelude.{are_data, run, start_memory, stopped, word_at}
+unfoldable pub use Rattle.sc_image.specs.Prelude.{are_data, run_by, start_memory, stopped, word_at}
 pub use Rattle.sc_image.specs.declared.parts.ImageParts.{ImageParts}
 pub use Rattle.sc_machine.specs.Hart.{CanRun, HasRoom, IsBacked, IsReady, IsSound, LeavesSound, StaysSound, active_in}
 pub use Rattle.sc_machine.specs.Hart.{advanced, at, comp_in, linked, outcome_of, running, state_in, written_at_next}
