@@ -20,7 +20,7 @@ use Rattle.sc_core.specs.declared.expr.TypedKind.TheOpen as term
 use Rattle.sc_core.specs.declared.stmt.TypedStmtKind.TheOpen as layer
 use Rattle.sc_core.specs.declared.ty.Ty.TheVariants.{Int}
 use Rattle.sc_core.proofs.Layers.{expr_at, on_line, stmt_at, typed}
-use Rattle.sc_image.specs.Machine.{after, run, stopped, stops_or}
+use Rattle.sc_image.specs.Machine.{after, run, run_by, stopped, stops_or}
 use Rattle.sc_image.specs.Prelude.{MachineRun, MachineState, Traps, start, step}
 use Rattle.sc_lower.specs.Branches.{branches, expr_branches, kind_branches, term_branches}
 use Rattle.sc_compile.specs.Prelude.{HasFewBranches}

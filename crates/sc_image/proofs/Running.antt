@@ -149,26 +149,28 @@ pub after_keeps : (P : MachineState → Type 0) (state : MachineState) (outcome 
 after_keeps P state (Goes next) h k = k
 after_keeps P state (Traps reason) h k = h
 
-module _ (image : ImageParts) (inputs : List ℕ) (events : ℕ) (P : MachineState → Type 0)
-    (each : (state : MachineState) → P state → stopped events state.trace ≡ None → AtNext P (step image inputs state))
-  where
-    stop_keeps : (early : Option Stop) (state : MachineState) (later : MachineRun) → P state → (early ≡ None → P
-        later.state) →
-        P (stops_or early state later).state
-    stop_keeps None state later h k = k refl
-    stop_keeps (Some stop) state later h k = h
+module _ {M : Type 0} (protection : Protection M) (events : ℕ) (P : M → Type 0)
+    (each : (state : M) → P state → early_in protection events state ≡ None → AtNext P (step_by protection state)) where
+  stop_keeps : (early : Option Stop) (state : M) (later : RunOf M) → P state → (early ≡ None → P later.state) →
+      P (stops_or early state later).state
+  stop_keeps None state later h k = k refl
+  stop_keeps (Some stop) state later h k = h
 
-    go_keeps : (state : MachineState) (outcome : Outcome) (go : MachineState → MachineRun) → P state →
-        AtNext P outcome →
-        ((next : MachineState) → P next → P (go next).state) → P (after state.pc state outcome go).state
-    go_keeps state (Goes next) go h k later = later next k
-    go_keeps state (Traps reason) go h k later = h
+  go_keeps : (pc : ℕ) (state : M) (outcome : OutcomeOf M) (go : M → RunOf M) → P state → AtNext P outcome →
+      ((next : M) → P next → P (go next).state) → P (after pc state outcome go).state
+  go_keeps pc state (Goes next) go h k later = later next k
+  go_keeps pc state (Traps reason) go h k later = h
 
-    pub run_keeps : (steps : ℕ) (state : MachineState) → P state → P (run image inputs events steps state).state
-    unfolding run_by
-    run_keeps zero state h = stop_keeps (stopped events _) state _ h (λ early. h)
-    run_keeps (suc steps) state h = stop_keeps (stopped events _) state _ h
-        (λ early. go_keeps state _ _ h (each state h early) (run_keeps steps))
+  pub any_run_keeps : (steps : ℕ) (state : M) → P state → P (run_by protection events steps state).state
+  unfolding run_by
+  any_run_keeps zero state h = stop_keeps (early_in protection events state) state _ h (λ early. h)
+  any_run_keeps (suc steps) state h = stop_keeps (early_in protection events state) state _ h
+      (λ early. go_keeps _ state _ _ h (each state h early) (any_run_keeps steps))
+
+pub run_keeps : (image : ImageParts) (inputs : List ℕ) (events : ℕ) (P : MachineState → Type 0) →
+    ((state : MachineState) → P state → stopped events state.trace ≡ None → AtNext P (step image inputs state)) →
+    (steps : ℕ) (state : MachineState) → P state → P (run image inputs events steps state).state
+run_keeps image inputs = any_run_keeps (by_owner image inputs)
 
 -- Stretches of a run, steps by their instruction, and what stands in memory at the start.
 

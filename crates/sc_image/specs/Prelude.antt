@@ -41,7 +41,7 @@ unfoldable pub use Rattle.sc_image.specs.State.{start_memory}
 pub use Rattle.sc_image.specs.Steady.{AreNested, IsSteadyState, KeepsWords, OpenCall, call_of, count_read, inputs_in}
 pub use Rattle.sc_image.specs.Steady.{latest_call, open_after, open_calls, without_latest}
 pub use Rattle.sc_image.specs.Step.{Goes, Outcome, Traps, by_owner, jump_outside, compares, op_result, environment_call}
-pub use Rattle.sc_image.specs.Step.{Carrier, OutcomeOf, Protection, frees, gives_by, next_by, plain}
+pub use Rattle.sc_image.specs.Step.{Carrier, OutcomeOf, Protection, frees, gives_by, next_by, plain, upper_result}
 pub use Rattle.sc_image.specs.Step.{execute, export_called, extended, gives, if_decoded, if_fetched, jalr_target, jump}
 pub use Rattle.sc_image.specs.Step.{jump_by, leaves, load, load_by, load_size, word_loaded, next, on_registers, refused}
 pub use Rattle.sc_image.specs.Step.{shift_on_registers, step, store, store_by, store_size, unless_trap, with_stored}

@@ -2,7 +2,7 @@
 use Rattle.sc_image.specs.Common.{Auipc, BadCall, BadFree, BadJump, Branch, BranchOp, Breakpoint, Ebreak, Ecall, Fence}
 use Rattle.sc_image.specs.Common.{Illegal}
 use Rattle.sc_image.specs.Common.{Instr, Jal, Jalr, Load, LoadOp, Lui, Misaligned, NoImport, Op, OpImm, OpImmOp, OpOp}
-use Rattle.sc_image.specs.Common.{Owner, Shift, ShiftOp, Store, StoreOp, TrapReason, Upper, add_word, decoded, div_word}
+use Rattle.sc_image.specs.Common.{Owner, Shift, ShiftOp, Store, StoreOp, TrapReason, Upper, UpperOp, add_word, decoded, div_word}
 use Rattle.sc_image.specs.Common.{divu_word, load_of, mul_word, mulh_word, mulhsu_word, mulhu_word, rem_word, remu_word}
 use Rattle.sc_image.specs.Common.{signed, signed_of, sll_word, slt_word, sltu_word, sra_word, srl_word, with_bytes}
 use Rattle.sc_image.specs.Common.{sub_word, word_of}
@@ -76,6 +76,11 @@ op_result Div = div_word
 op_result Divu = divu_word
 op_result Rem = rem_word
 op_result Remu = remu_word
+
+-- what LUI gives, and what AUIPC does
+abbrev pub upper_result : UpperOp → (pc imm : ℕ) → ℕ
+upper_result Lui pc imm = imm
+upper_result Auipc pc imm = add_word pc imm
 
 -- an operation on an immediate computes what this one computes from the immediate's word
 abbrev pub on_registers : OpImmOp → OpOp
@@ -197,8 +202,7 @@ module _ {M : Type 0} (protection : Protection M) where
   next_in state = next_by protection.carrier state (protection.carrier.seen state)
 
   unfoldable pub execute_by : M → Instr → OutcomeOf M
-  execute_by state (Upper Lui rd imm) = gives_in state rd imm
-  execute_by state (Upper Auipc rd imm) = gives_in state rd (add_word (pc_in state) imm)
+  execute_by state (Upper op rd imm) = gives_in state rd (upper_result op (pc_in state) imm)
   execute_by state (Jal rd imm) =
       let target = add_word (pc_in state) (word_of imm) in
       jump_in state rd target (protection.jal_leaves state rd target)

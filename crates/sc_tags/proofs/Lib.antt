@@ -1,0 +1,4 @@
+mod Common
+mod Levels
+mod Owners
+mod Agree

@@ -1,0 +1,6 @@
+pub mod Common
+pub mod Prelude
+pub mod Tags
+pub mod Tagged
+pub mod TagStep
+pub mod TagLaws
