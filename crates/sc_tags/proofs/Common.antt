@@ -1,5 +1,5 @@
 -- The names that several proofs of this crate cite, passed on from one place. Declares nothing.
-pub use Rattle.sc_image.proofs.Common.{Auipc, Bool, Branch, ByteMemory, Crossing, Ebreak, Ecall, Fence, Goes, ImageParts}
+pub use Rattle.sc_image.proofs.Common.{Auipc, Bool, Branch, ByteMemory, Crossing, Ebreak, Ecall, Fence, Goes}
 pub use Rattle.sc_image.proofs.Common.{Instr, IsSome, IsWellFormed, IsWord, Jal, Jalr, List, Load, LoadOp, Lui}
 pub use Rattle.sc_image.proofs.Common.{MachineRun, MachineState, None, Op, OpImm, Option, Outcome, OutcomeOf, Protection}
 pub use Rattle.sc_image.proofs.Common.{RunOf, Shift, Some, Stop, Store, StoreOp, TrapReason, Traps, Upper, [], after, ap}
@@ -14,6 +14,7 @@ pub use Rattle.sc_image.proofs.Common.{start, step, step_by, stopped, stops_or, 
 pub use Rattle.sc_image.proofs.Common.{true≢false, unless_trap, with_bytes, with_pc, with_stored, word_at, word_loaded}
 pub use Rattle.sc_image.proofs.Common.{zero, ℕ, ◌%◌, ◌&&◌, ◌*◌, ◌+◌, ◌-◌, ◌/◌, ◌<◌, ◌==◌, ◌^◌, ◌∙◌, ◌∷◌, ◌≡◌, ◌≢◌, ◌≤◌}
 pub use Rattle.sc_image.proofs.Common.{BadJump, NoImport, export_params}
+pub use Rattle.sc_image.proofs.Common.{All, IsSteadyState, after_outcome}
 pub use Rattle.sc_image.proofs.Cases.{AtNext}
 pub use Rattle.sc_image.proofs.Running.{any_run_keeps}
 pub use Rattle.sc_image.proofs.Common.{a0, a7, add_word, and_parts, code_start, extended, false_from_ne_true, frees}
@@ -24,10 +25,12 @@ pub use Rattle.sc_image.proofs.Words.{comp_found, entry_code, if_some, in_code, 
 pub use Rattle.sc_image.specs.Prelude.{environment_call, gives_by, jump_by, next_by}
 pub use Rattle.sc_store.proofs.Words.{load_of-stored, stored-at}
 pub use Rattle.sc_tags.specs.Prelude.{CapabilitiesAreLinear, Tagged, TagsAgree, at_level, by_tag, carried_called}
-pub use Rattle.sc_tags.specs.Prelude.{code_byte, code_word, core_of, is_code, is_data, on_tag_call, on_tag_end}
+pub use Rattle.sc_tags.specs.Prelude.{code_byte, code_word, core_of, is_tag, on_tag_call, on_tag_end}
 pub use Rattle.sc_tags.specs.Prelude.{on_tag_return, owner_of, returned_by, tag_at, tag_by, tag_jumps, tag_leaves}
 pub use Rattle.sc_tags.specs.Prelude.{tag_machine, tag_run, tag_start, tag_step, tagged_word, with_code, with_outcome}
+pub use Rattle.sc_tags.specs.Prelude.{capabilities_of, leveled, lifted, with_levels}
 unfoldable pub use Rattle.sc_tags.specs.Prelude.{all_tagged}
+pub use Rattle.sc_image.specs.declared.parts.ImageParts.{ImageParts}
 pub use Rattle.sc_tags.specs.declared.tag.ByteTag.{ByteTag}
 pub use Rattle.sc_tags.specs.declared.tag.ByteTag.TheVariants.{Code, Data, Unowned}
 pub use Rattle.sc_tags.specs.declared.tag.TagRange.{TagRange}

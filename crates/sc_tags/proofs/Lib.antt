@@ -1,4 +1,5 @@
 mod Common
-mod Levels
+mod Linear
+mod Lifting
 mod Owners
 mod Agree

@@ -3,8 +3,8 @@
 use Rattle.sc_tags.proofs.Common.{Bool, ByteMemory, ByteTag, Code, Data, ImageParts, IsWellFormed, MachineState, None}
 use Rattle.sc_tags.proofs.Common.{Option, Some, Tagged, Unowned, [], all_tagged, ap, ap₂, are_data, arith, code_byte}
 use Rattle.sc_tags.proofs.Common.{code_start, code_word, comp_of_code, comp_of_data, data_bounds, data_end, data_start}
-use Rattle.sc_tags.proofs.Common.{eq-eqb, eqb-true, false, false_from_ne_true, if◌then◌else◌, if_some, in_code, is_code}
-use Rattle.sc_tags.proofs.Common.{comp_found, and_parts, leb-true, is_data, is_some, load_of, load_of-same, load_of-stored}
+use Rattle.sc_tags.proofs.Common.{eq-eqb, eqb-true, false, false_from_ne_true, if◌then◌else◌, if_some, in_code, is_tag}
+use Rattle.sc_tags.proofs.Common.{comp_found, and_parts, leb-true, length, lt-ltb, ltb-true, is_some, load_of, load_of-same, load_of-stored}
 use Rattle.sc_tags.proofs.Common.{nat_eq, nat_le, nat_lt, ne_eqb, one_is, one_of, owner_of, owns, refl, slice_get}
 use Rattle.sc_tags.proofs.Common.{slice_get_within, stored-at, stretch, subst, suc, sym, tag_at, tag_by, true, true≢false}
 use Rattle.sc_tags.proofs.Common.{with_bytes, with_code, word_at, zero, ℕ, ◌%◌, ◌&&◌, ◌*◌, ◌+◌, ◌-◌, ◌/◌, ◌<◌, ◌^◌, ◌∙◌}
@@ -50,16 +50,17 @@ module _ (image : ImageParts) (formed : IsWellFormed image) where
 
   -- Tags as data.
 
-  owner_data : (c a : ℕ) → is_data c (tag_at image [] a) ≡ is_data c (owner_of image a)
-  owner_data c a = ap (is_data c) (stays (owner_of image a))
+  owner_data : (c a : ℕ) → is_tag (Data c) (tag_at image [] a) ≡ is_tag (Data c) (owner_of image a)
+  owner_data c a = ap (is_tag (Data c)) (stays (owner_of image a))
 
-  by_owned : (c a : ℕ) → are_data image c a 1 ≡ true → is_data c (owner_of image a) ≡ true
-  by_owned c a is =
+  by_owned : (c a : ℕ) → c < length image.comps → are_data image c a 1 ≡ true → is_tag (Data c) (owner_of image a) ≡ true
+  by_owned c a within is =
       let same = data_comp c a is in
-      rw (no_code c a is, same, is) (eq-eqb c c refl)
+      let there = lt-ltb c (length image.comps) within in
+      rw (no_code c a is, same, there, is) (eq-eqb c c refl)
 
   by_other : (c y : ℕ) (code data_there : Bool) (x : ℕ) → (y ≡ c → data_there ≡ true → false ≡ true) →
-      is_data c (if code then Code x else if data_there then Data y else Unowned) ≡ false
+      is_tag (Data c) (if code then Code x else if data_there then Data y else Unowned) ≡ false
   by_other c y true there x never = refl
   by_other c y false false x never = refl
   by_other c y false true x never = by _ refl
@@ -68,30 +69,34 @@ module _ (image : ImageParts) (formed : IsWellFormed image) where
       by false is = refl
       by true is = sym (never (eqb-true y c is) refl)
 
-  kind_by : (c a : ℕ) (owned : Bool) → are_data image c a 1 ≡ owned → is_data c (owner_of image a) ≡ owned
-  kind_by c a true is = by_owned c a is
-  kind_by c a false is = by_other c (comp_of_data a) (is_some (code_word image a)) _ _
-      (λ same there. sym (ap (λ d. are_data image d a 1) same ∙ is) ∙ there)
+  kind_by : (c a : ℕ) (owned : Bool) → c < length image.comps → are_data image c a 1 ≡ owned →
+      is_tag (Data c) (owner_of image a) ≡ owned
+  kind_by c a true within is = by_owned c a within is
+  kind_by c a false within is = by_other c (comp_of_data a) (is_some (code_word image a)) _ _
+      (λ same there. sym (ap (λ d. are_data image d a 1) same ∙ is) ∙
+      (and_parts (nat_lt (comp_of_data a) (length image.comps)) _ there).1)
 
-  data_kind : (c a : ℕ) → is_data c (tag_at image [] a) ≡ owns image c a
-  data_kind c a = owner_data c a ∙ kind_by c a _ refl ∙ one_is image c a
+  data_kind : (c a : ℕ) → c < length image.comps → is_tag (Data c) (tag_at image [] a) ≡ owns image c a
+  data_kind c a within = owner_data c a ∙ kind_by c a _ within refl ∙ one_is image c a
 
-  pub data_tagged : (c a size : ℕ) → all_tagged (tag_at image []) (is_data c) a size ≡ are_data image c a size
+  pub data_tagged : (c a size : ℕ) → c < length image.comps →
+      all_tagged (tag_at image []) (Data c) a size ≡ are_data image c a size
   unfolding all_tagged are_data
-  data_tagged c a zero = refl
-  data_tagged c a (suc size) = ap₂ (λ x y. x && y) (data_tagged c a size) (data_kind c (a + size))
+  data_tagged c a zero within = refl
+  data_tagged c a (suc size) within =
+      ap₂ (λ x y. x && y) (data_tagged c a size within) (data_kind c (a + size) within)
 
   -- Tags as code.
 
   by_code : (c x y : ℕ) (code data_there : Bool) →
-      is_code c (if code then Code x else if data_there then Data y else Unowned) ≡ (code && nat_eq x c)
+      is_tag (Code c) (if code then Code x else if data_there then Data y else Unowned) ≡ (code && nat_eq x c)
   by_code c x y true there = refl
   by_code c x y false true = refl
   by_code c x y false false = refl
 
-  code_kind : (c a : ℕ) → is_code c (tag_at image [] a) ≡
+  code_kind : (c a : ℕ) → is_tag (Code c) (tag_at image [] a) ≡
       (is_some (code_word image a) && nat_eq (comp_of_code (a / 4 * 4)) c)
-  code_kind c a = ap (is_code c) (stays (owner_of image a)) ∙ by_code c _ (comp_of_data a) _ _
+  code_kind c a = ap (is_tag (Code c)) (stays (owner_of image a)) ∙ by_code c _ (comp_of_data a) _ _
 
   -- the four bytes of an aligned word
   same_place : (a k : ℕ) → a % 4 ≡ 0 → k < 4 → (a + k) / 4 * 4 ≡ a
@@ -100,7 +105,7 @@ module _ (image : ImageParts) (formed : IsWellFormed image) where
   abbrev is_own : (c a : ℕ) → Bool
   is_own c a = is_some (word_at image (comp_of_code a) a) && nat_eq (comp_of_code a) c
 
-  byte_kind : (c a k : ℕ) → a % 4 ≡ 0 → k < 4 → is_code c (tag_at image [] (a + k)) ≡ is_own c a
+  byte_kind : (c a k : ℕ) → a % 4 ≡ 0 → k < 4 → is_tag (Code c) (tag_at image [] (a + k)) ≡ is_own c a
   byte_kind c a k aligned few = code_kind c (a + k) ∙
       ap (λ place. is_some (word_at image (comp_of_code place) place) && nat_eq (comp_of_code place) c)
       (same_place a k aligned few)
@@ -109,7 +114,7 @@ module _ (image : ImageParts) (formed : IsWellFormed image) where
   four true p q r s h i j k = rw (h, i, j, k) refl
   four false p q r s h i j k = rw h refl
 
-  code_tagged : (c a : ℕ) → a % 4 ≡ 0 → all_tagged (tag_at image []) (is_code c) a 4 ≡ is_own c a
+  code_tagged : (c a : ℕ) → a % 4 ≡ 0 → all_tagged (tag_at image []) (Code c) a 4 ≡ is_own c a
   unfolding all_tagged
   code_tagged c a aligned = four (is_own c a) _ _ _ _
       (byte_kind c a 0 aligned (omega arith)) (byte_kind c a 1 aligned (omega arith))
@@ -179,24 +184,24 @@ module _ (image : ImageParts) (formed : IsWellFormed image) where
       and_false false = refl
 
   word_by : (memory : ByteMemory) (c a : ℕ) → a % 4 ≡ 0 → (word : Option ℕ) → word_at image c a ≡ word →
-      (if all_tagged (tag_at image []) (is_code c) a 4 then Some (load_of (with_code image memory) a 4) else None) ≡ word
+      (if all_tagged (tag_at image []) (Code c) a 4 then Some (load_of (with_code image memory) a 4) else None) ≡ word
   word_by memory c a aligned None at = rw (code_tagged c a aligned, no_own c a at _ refl) refl
   word_by memory c a aligned (Some word) at =
       let whose = (in_code image formed c a word at).comp in
       rw (code_tagged c a aligned, whose, at, eq-eqb c c refl) (ap Some (code_loaded memory c a word at))
 
+  misaligned : (c a : ℕ) → nat_eq (a % 4) 0 ≡ false → word_at image c a ≡ None
+  unfolding word_at
+  misaligned c a is = rw is refl
+
   fetched_by : (memory : ByteMemory) (c a : ℕ) (aligned : Bool) → nat_eq (a % 4) 0 ≡ aligned →
-      (if aligned && all_tagged (tag_at image []) (is_code c) a 4 then Some (load_of (with_code image memory) a 4)
+      (if aligned && all_tagged (tag_at image []) (Code c) a 4 then Some (load_of (with_code image memory) a 4)
       else None) ≡ word_at image c a
   fetched_by memory c a true is = word_by memory c a (eqb-true (a % 4) 0 is) _ refl
   fetched_by memory c a false is = sym (misaligned c a is)
-    where
-      misaligned : (c a : ℕ) → nat_eq (a % 4) 0 ≡ false → word_at image c a ≡ None
-      unfolding word_at
-      misaligned c a is = rw is refl
 
   -- the word that is fetched is the one of the compartment's code
   pub fetched_same : (memory : ByteMemory) (c a : ℕ) →
-      (if nat_eq (a % 4) 0 && all_tagged (tag_at image []) (is_code c) a 4
+      (if nat_eq (a % 4) 0 && all_tagged (tag_at image []) (Code c) a 4
       then Some (load_of (with_code image memory) a 4) else None) ≡ word_at image c a
   fetched_same memory c a = fetched_by memory c a _ refl

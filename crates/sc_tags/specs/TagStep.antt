@@ -2,9 +2,9 @@
 -- tagged as its data.
 use Rattle.sc_tags.specs.Common.{Carrier, Goes, ImageParts, MachineState, Outcome, OutcomeOf, Protection, RunOf, TagRange}
 use Rattle.sc_tags.specs.Common.{Traps, comp_of_code, entered_export, environment_call, export_params, gate, load_of}
-use Rattle.sc_tags.specs.Common.{may_call_export, ra, run_by, step_by}
+use Rattle.sc_tags.specs.Common.{Code, Data, may_call_export, ra, run_by, step_by}
 use Rattle.sc_tags.specs.Tagged.{Tagged, on_tag_call, on_tag_return, tag_start}
-use Rattle.sc_tags.specs.Tags.{all_tagged, is_code, is_data, tag_at}
+use Rattle.sc_tags.specs.Tags.{all_tagged, tag_at}
 use Rattle.sc_base.specs.declared.stop.TrapReason.TheVariants.{BadJump, NoImport}
 use Rattle.std.specs.Prelude.{List, None, Option, Some, if◌then◌else◌, nat_eq, ℕ, ◌%◌, ◌&&◌}
 
@@ -45,15 +45,15 @@ with_outcome tagged (Traps reason) = Traps reason
 -- the word at an address, where its four bytes are the active compartment's code
 abbrev pub tagged_word : ImageParts → List TagRange → Tagged → (address : ℕ) → Option ℕ
 tagged_word image ranges tagged address =
-    if nat_eq (address % 4) 0 && all_tagged (tag_at image ranges) (is_code tagged.core.active) address 4
+    if nat_eq (address % 4) 0 && all_tagged (tag_at image ranges) (Code tagged.core.active) address 4
     then Some (load_of tagged.core.memory address 4) else None
 
 abbrev pub by_tag : ImageParts → List TagRange → List ℕ → Protection Tagged
 by_tag image ranges inputs = record {
   carrier = core_of;
   fetched = tagged_word image ranges;
-  may_load = λ tagged. all_tagged (tag_at image ranges) (is_data tagged.core.active);
-  may_store = λ tagged. all_tagged (tag_at image ranges) (is_data tagged.core.active);
+  may_load = λ tagged. all_tagged (tag_at image ranges) (Data tagged.core.active);
+  may_store = λ tagged. all_tagged (tag_at image ranges) (Data tagged.core.active);
   jal_leaves = tag_jumps image;
   jalr_leaves = tag_leaves image;
   environment = λ tagged. with_outcome tagged (environment_call image inputs tagged.core);

@@ -3,7 +3,7 @@
 ghost use Rattle.sc_tags.specs.Prelude.{CapabilitiesAreLinear, TagsAgree};
 
 /// At each moment of a run one capability is live at each level below the call level, and none at another.
-#[tactic(auto, using(crate::proofs::Levels::capabilities_linear))]
+#[tactic(auto, using(crate::proofs::Linear::capabilities_linear))]
 pub fn capabilities_are_linear()
     ensures { CapabilitiesAreLinear }
 {}
