@@ -19,12 +19,12 @@ either R false x y x' y' p q = q
 
 beyond : (cross : List Crossing) (level : ℕ) → length cross ≤ level → capabilities_of cross level ≡ None
 beyond [] level past = refl
-beyond (x ∷ xs) level past = by _ refl
+beyond (x ∷ xs) level past = by _ refl (beyond xs level (omega (arith, past)))
   where
-    by : (same : Bool) → nat_eq level (length xs) ≡ same →
+    by : (same : Bool) → nat_eq level (length xs) ≡ same → capabilities_of xs level ≡ None →
         (if same then Some x else capabilities_of xs level) ≡ None
-    by true is = let here = eqb-true level (length xs) is in absurd (omega (arith, here, past))
-    by false is = beyond xs level (omega (arith, past))
+    by true is earlier = let here = eqb-true level (length xs) is in absurd (omega (arith, here, past))
+    by false is earlier = earlier
 
 latest : (x : Crossing) (xs : List Crossing) → capabilities_of (x ∷ xs) (length xs) ≡ Some x
 latest x xs = rw (eq-eqb (length xs) (length xs) refl) refl
