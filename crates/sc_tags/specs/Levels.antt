@@ -2,7 +2,7 @@
 -- each of the level that it was made at.
 use Rattle.sc_tags.specs.Common.{ByteMemory, Crossing, Goes, MachineState, Outcome, OutcomeOf, Traps}
 use Rattle.sc_tags.specs.Tagged.{Tagged}
-use Rattle.std.specs.Prelude.{List, None, Option, Some, [], if◌then◌else◌, length, nat_eq, ℕ, ◌∷◌}
+use Rattle.std.specs.Prelude.{List, None, Option, Some, [], length, nat_eq, ℕ, if◌then◌else◌, ◌∷◌}
 
 -- the call of a level, where these are open, the latest first
 abbrev pub capabilities_of : List Crossing → (level : ℕ) → Option Crossing
