@@ -21,10 +21,3 @@ leveled memory state = record {
 abbrev pub lifted : (ByteMemory → ByteMemory) → Outcome → OutcomeOf Tagged
 lifted memory (Goes state) = Goes (leveled memory state)
 lifted memory (Traps reason) = Traps reason
-
--- with the same memory
-abbrev pub same_memory : ByteMemory → ByteMemory
-same_memory memory = memory
-
-abbrev pub with_levels : MachineState → Tagged
-with_levels = leveled same_memory
