@@ -20,7 +20,7 @@ use Rattle.sc_core.specs.declared.expr.TypedKind.TheOpen as term
 use Rattle.sc_core.specs.declared.stmt.TypedStmtKind.TheOpen as layer
 use Rattle.sc_core.specs.declared.ty.Ty.TheVariants.{Int}
 use Rattle.sc_core.proofs.Layers.{expr_at, on_line, stmt_at, typed}
-use Rattle.sc_image.specs.Machine.{after, run, stopped, stops_or}
+use Rattle.sc_image.specs.Machine.{after, run, run_by, stopped, stops_or}
 use Rattle.sc_image.specs.Prelude.{MachineRun, MachineState, Traps, start, step}
 use Rattle.sc_lower.specs.Branches.{branches, expr_branches, kind_branches, term_branches}
 use Rattle.sc_compile.specs.Prelude.{HasFewBranches}
@@ -75,11 +75,11 @@ stays _ state later is = is
 
 trapped : (image : ImageParts) (reason : TrapReason) → step image [] (start image) ≡ Traps reason →
     (events steps : ℕ) → (run image [] events steps (start image)).state ≡ start image
-unfolding run
+unfolding run_by
 trapped image reason traps events zero = stays (stopped events (start image).trace) (start image) _ refl
 trapped image reason traps events (suc steps) =
     stays (stopped events (start image).trace) (start image) _
-    (ap (λ outcome. (after (start image) outcome (run image [] events steps)).state) traps)
+    (ap (λ outcome. (after (start image).pc (start image) outcome (run image [] events steps)).state) traps)
 
 trap_is_refused : (image : ImageParts) (reason : TrapReason) → step image [] (start image) ≡ Traps reason →
     IsCompiled alone image → ⊥

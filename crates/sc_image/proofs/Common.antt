@@ -88,11 +88,12 @@ pub use Rattle.sc_image.specs.Prelude.{on_return}
 pub use Rattle.sc_image.specs.Prelude.{on_return_to, saved_sp, shift_on_registers, sp, stack_size, stack_top}
 pub use Rattle.sc_image.specs.Prelude.{stack_tops}
 pub use Rattle.sc_image.specs.Prelude.{start, step, stops_or, store_by, store_size, stretch, then_on, unless_trap}
+pub use Rattle.sc_image.specs.Prelude.{OutcomeOf, Protection, RunOf, plain, run}
 pub use Rattle.sc_image.specs.Prelude.{unless_stopped, walk, with_pc, with_stored, without_latest}
 pub use Rattle.sc_image.specs.Prelude.{word_interface, word_interfaces, word_proto, written, ◌>>=◌}
 unfoldable pub use Rattle.sc_image.specs.Prelude.{are_data, code_at, read_comp, comp_name_at, execute_by, read_exports}
 unfoldable pub use Rattle.sc_image.specs.Prelude.{fields_at, globals_at, image_in, import_at, imports_at}
-unfoldable pub use Rattle.sc_image.specs.Prelude.{read_name, parts_at, run, start_memory, step_by, stopped}
+unfoldable pub use Rattle.sc_image.specs.Prelude.{read_name, parts_at, run_by, start_memory, step_by, stopped}
 unfoldable pub use Rattle.sc_image.specs.Prelude.{word_at}
 pub use Rattle.sc_image.specs.declared.fault.BadImage.{BadImage}
 pub use Rattle.sc_image.specs.declared.fault.BadImage.TheVariants.{Compartment, Contents, Count, Exports, Imports, Mark}

@@ -9,7 +9,7 @@ pub use Rattle.sc_image.specs.Calls.{export_params}
 pub use Rattle.sc_image.specs.Cross.{arguments, on_call, cleared_for_call, cleared_for_return, on_end, given_back}
 pub use Rattle.sc_image.specs.Cross.{on_alloc, on_free, on_input, starts_block, with_zone, zone_address}
 pub use Rattle.sc_image.specs.Cross.{input_at, is_argument, is_result, kept, kept_from, on_output, on_return}
-pub use Rattle.sc_image.specs.Cross.{on_return_to}
+pub use Rattle.sc_image.specs.Cross.{crossing_to, on_entry, on_return_to}
 pub use Rattle.sc_image.specs.Emitting.{Emits, EmittingComposes, IsCall, StepsEmit}
 pub use Rattle.sc_image.specs.Interfaces.{LegalByWords, MachineTracesAreLegal, image_import, image_interface}
 pub use Rattle.sc_image.specs.Interfaces.{image_interfaces}
@@ -24,8 +24,8 @@ pub use Rattle.sc_image.specs.Layout.{data_with, gate, initial_globals, most_glo
 pub use Rattle.sc_image.specs.Layout.{data_end, has_heap, zone_size, zone_start}
 unfoldable pub use Rattle.sc_image.specs.Layout.{are_data, word_at}
 pub use Rattle.sc_image.specs.Machine.{MachineRun, after, continued, is_end, is_ended, machine, stops_or}
-pub use Rattle.sc_image.specs.Machine.{unless_stopped}
-unfoldable pub use Rattle.sc_image.specs.Machine.{run, stopped}
+pub use Rattle.sc_image.specs.Machine.{RunOf, run, unless_stopped}
+unfoldable pub use Rattle.sc_image.specs.Machine.{run_by, stopped}
 pub use Rattle.sc_image.specs.Own.{Entered, Kept, Own, Running, Waits, data_of, kept_by, own}
 pub use Rattle.sc_image.specs.Reading.{Fails, Gives, Read, bad, bytes_at, cause_number, read_cause, if_good, mark_at}
 pub use Rattle.sc_image.specs.Reading.{most_flags, number_at, number_that, version_at, ◌>>=◌}
@@ -41,7 +41,7 @@ unfoldable pub use Rattle.sc_image.specs.State.{start_memory}
 pub use Rattle.sc_image.specs.Steady.{AreNested, IsSteadyState, KeepsWords, OpenCall, call_of, count_read, inputs_in}
 pub use Rattle.sc_image.specs.Steady.{latest_call, open_after, open_calls, without_latest}
 pub use Rattle.sc_image.specs.Step.{Goes, Outcome, Traps, by_owner, jump_outside, compares, op_result, environment_call}
-pub use Rattle.sc_image.specs.Step.{frees}
+pub use Rattle.sc_image.specs.Step.{Carrier, OutcomeOf, Protection, frees, gives_by, next_by, plain, upper_result}
 pub use Rattle.sc_image.specs.Step.{execute, export_called, extended, gives, if_decoded, if_fetched, jalr_target, jump}
 pub use Rattle.sc_image.specs.Step.{jump_by, leaves, load, load_by, load_size, word_loaded, next, on_registers, refused}
 pub use Rattle.sc_image.specs.Step.{shift_on_registers, step, store, store_by, store_size, unless_trap, with_stored}

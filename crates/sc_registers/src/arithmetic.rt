@@ -1,22 +1,21 @@
 //! The instructions that only compute (RISC-V Unprivileged ISA, chapters "RV32I Base Integer
 //! Instruction Set" and "M Extension").
-#![tactic(auto, unfolding(sc_image::specs::Step::execute_by))]
 
-ghost use Rattle.sc_machine.specs.Prelude.{Goes, ImageParts, Instr, MachineState, at, compares, op_result, execute};
-ghost use Rattle.sc_machine.specs.Prelude.{on_registers, shift_on_registers};
-ghost use Rattle.std.specs.Prelude.{◌≡◌, ◌+◌, ◌^◌, ◌<◌, ℕ, ℤ, List};
+ghost use Rattle.sc_image.specs.Prelude.{compares, on_registers, op_result, shift_on_registers, upper_result};
+ghost use Rattle.sc_registers.specs.Registers.{written_at_next};
+ghost use Rattle.sc_word.specs.Prelude.{word_of};
+ghost use Rattle.std.specs.Prelude.{◌≡◌, ◌+◌, ◌^◌, ◌<◌, slice_index};
 
-use crate::hart::{Core, word_of};
+use crate::registers::{Core, word_of};
 use rv_code::{
     BranchOp, Immediate, OpImmOp, OpOp, Reg, ShiftAmount, ShiftOp, UpperImmediate, UpperOp,
 };
 use sc_word::{add, div, divu, mul, mulh, mulhsu, mulhu, rem, remu, sll, slt, sltu, sra, srl, sub};
 
 /// LUI gives its immediate, AUIPC adds it to the pc.
-pub(crate) fn upper(core: &mut Core, op: UpperOp, rd: Reg, imm: UpperImmediate)
+pub fn upper(core: &mut Core, op: UpperOp, rd: Reg, imm: UpperImmediate)
     requires { core.old.pc + 4 < 2 ^ 32 }
-    ensures { (image : ImageParts) (inputs : List ℕ) (state : MachineState) →
-        Goes (at state core.new) ≡ execute image inputs (at state core.old) (Instr.Upper op rd imm) }
+    ensures { core.new ≡ written_at_next core.old rd (upper_result op core.old.pc imm) }
 {
     match op {
         UpperOp::Lui => core.give(rd, imm.value()),
@@ -25,30 +24,30 @@ pub(crate) fn upper(core: &mut Core, op: UpperOp, rd: Reg, imm: UpperImmediate)
 }
 
 /// An operation on a register and an immediate.
-pub(crate) fn op_imm(core: &mut Core, op: OpImmOp, rd: Reg, rs1: Reg, imm: Immediate)
+pub fn op_imm(core: &mut Core, op: OpImmOp, rd: Reg, rs1: Reg, imm: Immediate)
     requires { core.old.pc + 4 < 2 ^ 32 }
-    ensures { (image : ImageParts) (inputs : List ℕ) (state : MachineState) →
-        Goes (at state core.new) ≡ execute image inputs (at state core.old) (Instr.OpImm op rd rs1 imm) }
+    ensures { core.new ≡ written_at_next core.old rd
+        (op_result (on_registers op) (slice_index core.old.registers rs1) (word_of imm)) }
 {
     let word = with_immediate(op, core.register(rs1), word_of(imm));
     core.give(rd, word);
 }
 
 /// A shift of a register by a constant.
-pub(crate) fn shift(core: &mut Core, op: ShiftOp, rd: Reg, rs1: Reg, amount: ShiftAmount)
+pub fn shift(core: &mut Core, op: ShiftOp, rd: Reg, rs1: Reg, amount: ShiftAmount)
     requires { core.old.pc + 4 < 2 ^ 32 }
-    ensures { (image : ImageParts) (inputs : List ℕ) (state : MachineState) →
-        Goes (at state core.new) ≡ execute image inputs (at state core.old) (Instr.Shift op rd rs1 amount) }
+    ensures { core.new ≡ written_at_next core.old rd
+        (op_result (shift_on_registers op) (slice_index core.old.registers rs1) amount) }
 {
     let word = shifted(op, core.register(rs1), amount.bits() as u32);
     core.give(rd, word);
 }
 
 /// An operation on two registers.
-pub(crate) fn op(core: &mut Core, op: OpOp, rd: Reg, rs1: Reg, rs2: Reg)
+pub fn op(core: &mut Core, op: OpOp, rd: Reg, rs1: Reg, rs2: Reg)
     requires { core.old.pc + 4 < 2 ^ 32 }
-    ensures { (image : ImageParts) (inputs : List ℕ) (state : MachineState) →
-        Goes (at state core.new) ≡ execute image inputs (at state core.old) (Instr.Op op rd rs1 rs2) }
+    ensures { core.new ≡ written_at_next core.old rd
+        (op_result op (slice_index core.old.registers rs1) (slice_index core.old.registers rs2)) }
 {
     let word = computed(op, core.register(rs1), core.register(rs2));
     core.give(rd, word);
@@ -103,7 +102,7 @@ fn computed(op: OpOp, a: u32, b: u32) -> u32
 }
 
 /// Whether two registers compare so.
-pub(crate) fn compares(op: BranchOp, a: u32, b: u32) -> bool
+pub fn compares(op: BranchOp, a: u32, b: u32) -> bool
     ensures { result ≡ compares op a b }
 {
     match op {
