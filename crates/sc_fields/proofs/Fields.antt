@@ -1,11 +1,11 @@
 -- Fields: the first bytes, which a field's reader took, are the field as it is written, and what is written is read
 -- again.
-use Rattle.sc_image.proofs.Common.{All, AllByRecursion, BadImage, Bool, Err, List, Ok, Read, Result, [], ap}
-use Rattle.sc_image.proofs.Common.{append_assoc, arith, bytes_at, cases_lt, drop, drop_at, false, fields_at, flat_map}
-use Rattle.sc_image.proofs.Common.{get_or, get_or-drop, get_or-take, get_or_past, if_good, inl, inr, le-leb, le_bytes_2}
-use Rattle.sc_image.proofs.Common.{le_bytes_4, leb-true, length, length-append, length-take, little_bytes}
-use Rattle.sc_image.proofs.Common.{little_number, nat_le, number_at, refl, subst, suc, sym, take, take-append-drop}
-use Rattle.sc_image.proofs.Common.{take_at, true, zero, ℕ, ◌++◌, ◌<◌, ◌>>=◌, ◌^◌, ◌∙◌, ◌∷◌, ◌≡◌}
+use Rattle.sc_fields.proofs.Common.{All, AllByRecursion, Bool, Err, List, Ok, Read, Result, [], ap, append_assoc, arith}
+use Rattle.sc_fields.proofs.Common.{bytes_at, cases_lt, drop, drop_at, false, fields_at, flat_map, get_or, get_or-drop}
+use Rattle.sc_fields.proofs.Common.{get_or-take, get_or_default, get_or_past, if_good, inl, inr, le-leb, le_bytes_2}
+use Rattle.sc_fields.proofs.Common.{le_bytes_4, leb-true, length, length-append, length-take, little_bytes}
+use Rattle.sc_fields.proofs.Common.{little_number, nat_le, number_at, refl, subst, suc, sym, take, take-append-drop}
+use Rattle.sc_fields.proofs.Common.{take_at, true, zero, ℕ, ◌++◌, ◌<◌, ◌>>=◌, ◌^◌, ◌∙◌, ◌∷◌, ◌≡◌}
 use Rattle.std.proofs.lemmas.List.Concat.{flat_map-cons}
 use Rattle.byteorder.specs.Numbers.{little_number-reads_back, little_from-lt, little_from-take, length-bytes_low_first}
 
@@ -20,6 +20,9 @@ bytes_fit bytes all i =
       | inr le ↦ rw (get_or_past bytes i 0 le) (omega arith)
     ]
 
+pub all_bytes : (bytes : List ℕ) → IsBytes bytes → All (λ byte. byte < 2 ^ 8) bytes
+all_bytes bytes fits i d within = subst (λ b. b < 2 ^ 8) (get_or_default bytes i 0 d within) (fits i)
+
 IsBytes-drop : (n : ℕ) (bytes : List ℕ) → IsBytes bytes → IsBytes (drop n bytes)
 IsBytes-drop n bytes h i = rw get_or-drop (h _)
 
@@ -31,21 +34,21 @@ IsBytes-take n bytes h i =
     ]
 
 -- the value of a step that did not fail
-pub bind_ok : {A B : Type 0} (r : Result A BadImage) (f : A → Result B BadImage) (y : B) → (r >>= f) ≡ Ok y →
+pub bind_ok : {A B C : Type 0} (r : Result A C) (f : A → Result B C) (y : B) → (r >>= f) ≡ Ok y →
     (x : A) × (r ≡ Ok x) × (f x ≡ Ok y)
 bind_ok (Ok x) f y e = (x, refl, e)
 bind_ok (Err d) f y e = absurd cc
 
 -- a test that did not fail
-pub good_ok : {A : Type 0} (cause : BadImage) (good : Bool) (x y : A) → if_good cause good x ≡ Ok y →
+pub good_ok : {A C : Type 0} (cause : C) (good : Bool) (x y : A) → if_good cause good x ≡ Ok y →
     (good ≡ true) × (x ≡ y)
 good_ok cause true x y e = (refl, cc)
 good_ok cause false x y e = absurd cc
 
-abbrev done : {A : Type 0} → A → Result A BadImage
-done x = Ok x
+abbrev done : {A : Type 0} → (C : Type 0) → A → Result A C
+done C x = Ok x
 
-ok_is : {A : Type 0} (x y : A) → done x ≡ done y → x ≡ y
+ok_is : {A C : Type 0} (x y : A) → done C x ≡ done C y → x ≡ y
 ok_is x y e = cc
 
 -- the first bytes, which a reader took
@@ -60,15 +63,15 @@ Takes-then a x b y c p q = record {
 }
 
 -- a field of the values that fit it, each written in one way
-pub record IsField {A : Type 0} (field : List ℕ → Read A) (text : A → List ℕ) (fits : A → Type 0) : Type 0 where
+pub record IsField {A C : Type 0} (field : List ℕ → Read C A) (text : A → List ℕ) (fits : A → Type 0) : Type 0 where
   pub takes : (bytes : List ℕ) (x : A) (rest : List ℕ) → IsBytes bytes → field bytes ≡ Ok (x, rest) →
       Takes bytes (text x) rest × fits x
   pub again : (x : A) (rest : List ℕ) → fits x → field (text x ++ rest) ≡ Ok (x, rest)
 
 -- the same field, in other words
-pub restated : {A : Type 0} {f : List ℕ → Read A} {t u : A → List ℕ} {F G : A → Type 0} → IsField f t F →
+pub restated : {A C : Type 0} {f : List ℕ → Read C A} {t u : A → List ℕ} {F G : A → Type 0} → IsField f t F →
     ((x : A) → F x → t x ≡ u x) → ((x : A) → F x → G x) → ((x : A) → G x → F x) → IsField f u G
-restated {A} {f} {t} {u} {F} {G} h same to from = record {
+restated {A} {C} {f} {t} {u} {F} {G} h same to from = record {
   takes = λ bytes x rest fits e.
       let took = h.takes bytes x rest fits e in
       (subst (λ text. Takes bytes text rest) (same x took.1) took.0, to x took.1);
@@ -77,26 +80,26 @@ restated {A} {f} {t} {u} {F} {G} h same to from = record {
 }
 
 -- a field of which a value is made
-pub made : {A B : Type 0} {f : List ℕ → Read A} {t : A → List ℕ} {F : A → Type 0} → IsField f t F →
-    (make : A → B) (part : B → A) → ((x : A) → part (make x) ≡ x) →
+pub made : {A B C : Type 0} {f : List ℕ → Read C A} {t : A → List ℕ} {F : A → Type 0} → IsField f t F →
+    (make : A → B) (part : B → A) → ((x : A) → F x → part (make x) ≡ x) →
     IsField (λ bytes. f bytes >>= (λ x. Ok (make x.0, x.1))) (λ y. t (part y)) (λ y. F (part y) × (y ≡ make (part y)))
-made {A} {B} {f} {t} {F} h make part part_is = record {
+made {A} {B} {C} {f} {t} {F} h make part part_is = record {
   takes = λ bytes y rest fits e.
       let a = bind_ok _ _ _ e in
       let p = ok_is _ _ a.2 in
       let took = h.takes bytes a.0.0 a.0.1 fits a.1 in
       subst (λ q. Takes bytes (t (part q.0)) q.1 × (F (part q.0) × (q.0 ≡ make (part q.0)))) p
-      (subst (λ z. Takes bytes (t z) a.0.1 × (F z × (make a.0.0 ≡ make z))) (sym (part_is a.0.0))
+      (subst (λ z. Takes bytes (t z) a.0.1 × (F z × (make a.0.0 ≡ make z))) (sym (part_is a.0.0 took.1))
       (took.0, (took.1, refl)));
   again = λ y rest fits. ap (λ r. r >>= (λ x. Ok (make x.0, x.1))) (h.again _ rest fits.0) ∙
       ap (λ z. Ok (z, rest)) (sym fits.1);
 }
 
 -- a field whose value passes a test
-pub tested : {A : Type 0} {f : List ℕ → Read A} {t : A → List ℕ} {F : A → Type 0} → IsField f t F →
-    (cause : BadImage) (passes : A → Bool) →
+pub tested : {A C : Type 0} {f : List ℕ → Read C A} {t : A → List ℕ} {F : A → Type 0} → IsField f t F →
+    (cause : C) (passes : A → Bool) →
     IsField (λ bytes. f bytes >>= (λ x. if_good cause (passes x.0) x)) t (λ x. F x × (passes x ≡ true))
-tested {A} {f} {t} {F} h cause passes = record {
+tested {A} {C} {f} {t} {F} h cause passes = record {
   takes = λ bytes y rest fits e.
       let a = bind_ok _ _ _ e in
       let g = good_ok cause _ a.0 _ a.2 in
@@ -106,11 +109,11 @@ tested {A} {f} {t} {F} h cause passes = record {
 }
 
 -- a field and then another, whose value holds that of the first
-pub followed : {A B : Type 0} {f : List ℕ → Read A} {t : A → List ℕ} {F : A → Type 0} {g : A → List ℕ → Read B} {u : A →
-    B → List ℕ} {G : A → B → Type 0} → IsField f t F → (first : B → A) → ((a : A) → F a → IsField (g a) (u a) (G a)) →
+pub followed : {A B C : Type 0} {f : List ℕ → Read C A} {t : A → List ℕ} {F : A → Type 0}
+    {g : A → List ℕ → Read C B} {u : A → B → List ℕ} {G : A → B → Type 0} → IsField f t F → (first : B → A) → ((a : A) → F a → IsField (g a) (u a) (G a)) →
     ((a : A) (y : B) → F a → G a y → first y ≡ a) → IsField (λ bytes. f bytes >>= (λ x. g x.0 x.1))
     (λ y. t (first y) ++ u (first y) y) (λ y. F (first y) × G (first y) y)
-followed {A} {B} {f} {t} {F} {g} {u} {G} h first k keeps = record {
+followed {A} {B} {C} {f} {t} {F} {g} {u} {G} h first k keeps = record {
   takes = λ bytes y rest fits e.
       let a = bind_ok _ _ _ e in
       let one = h.takes bytes a.0.0 a.0.1 fits a.1 in
@@ -125,7 +128,7 @@ followed {A} {B} {f} {t} {F} {g} {u} {G} h first k keeps = record {
 }
 
 -- `size` bytes
-pub bytes_field : (cause : BadImage) (size : ℕ) → IsField (bytes_at cause size) (λ x. x)
+pub bytes_field : {C : Type 0} (cause : C) (size : ℕ) → IsField (bytes_at cause size) (λ x. x)
     (λ x. (length x ≡ size) × IsBytes x)
 bytes_field cause size = record {
   takes = λ bytes x rest fits e.
@@ -154,7 +157,7 @@ pub four_wide : IsWide 4
 four_wide = record { back = λ bytes len fits. le_bytes_4 bytes _ len fits (omega arith) }
 
 -- the lowest byte first
-pub number_field : (cause : BadImage) (size : ℕ) → IsWide size →
+pub number_field : {C : Type 0} (cause : C) (size : ℕ) → IsWide size →
     IsField (number_at cause size) (little_bytes size) (λ n. n < 256 ^ size)
 number_field cause size wide = record {
   takes = λ bytes n rest fits e.
@@ -178,7 +181,7 @@ number_field cause size wide = record {
 }
 
 -- one byte
-byte_takes : (cause : BadImage) (bytes : List ℕ) (n : ℕ) (rest : List ℕ) → IsBytes bytes →
+byte_takes : {C : Type 0} (cause : C) (bytes : List ℕ) (n : ℕ) (rest : List ℕ) → IsBytes bytes →
     number_at cause 1 bytes ≡ Ok (n, rest) → Takes bytes (n ∷ []) rest × (n < 256)
 byte_takes cause [] n rest fits e = absurd cc
 byte_takes cause (b ∷ bytes) n rest fits e =
@@ -190,7 +193,7 @@ byte_takes cause (b ∷ bytes) n rest fits e =
     subst (λ m. Takes (b ∷ bytes) (m ∷ []) rest × (m < 256)) n-is
     (subst (λ r. Takes (b ∷ bytes) (b ∷ []) r) rest-is whole, fits 0)
 
-pub byte_field : (cause : BadImage) → IsField (number_at cause 1) (λ n. n ∷ []) (λ n. n < 256)
+pub byte_field : {C : Type 0} (cause : C) → IsField (number_at cause 1) (λ n. n ∷ []) (λ n. n < 256)
 byte_field cause = record {
   takes = byte_takes cause;
   again = λ n rest lt.
@@ -201,7 +204,7 @@ byte_field cause = record {
 
 -- ---- many fields
 
-module _ {A : Type 0} (f : List ℕ → Read A) (t : A → List ℕ) (F : A → Type 0) (h : IsField f t F) where
+module _ {A C : Type 0} (f : List ℕ → Read C A) (t : A → List ℕ) (F : A → Type 0) (h : IsField f t F) where
   many_takes : (count : ℕ) (bytes : List ℕ) (xs : List A) (rest : List ℕ) → IsBytes bytes →
       fields_at f count bytes ≡ Ok (xs, rest) →
       Takes bytes (flat_map t xs) rest × ((length xs ≡ count) × AllByRecursion F xs)

@@ -1,0 +1,6 @@
+pub mod Prelude
+pub mod Bytes
+pub mod Rules
+pub mod Reading
+pub mod WellFormed
+pub mod RoundTrip
