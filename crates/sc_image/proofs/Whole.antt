@@ -45,7 +45,7 @@ equivalence {A} same decides = record {
   congr = λ x y z is. ap (λ w. same w z) ((decides x y).0 is);
 }
 
-distinct_decides : {A : Type 0} (same : A → A → Bool) → ((a b : A) → Decides (same a b) (a ≡ b)) → (xs : List A) →
+pub distinct_decides : {A : Type 0} (same : A → A → Bool) → ((a b : A) → Decides (same a b) (a ≡ b)) → (xs : List A) →
     Decides (are_distinct_by same xs) (IsDistinct xs)
 distinct_decides same decides xs = (
   λ is. AllPairs-from_IsDistinct decides xs (IsDistinct-from_count (equivalence same decides) xs (eqb-true _ _ is)),
@@ -157,7 +157,7 @@ comp_is image version comps c comp fits rules = record {
 
 -- The whole.
 
-comp_there : (version : ℕ) (image : ImageParts) (c : ℕ) (comp : CompPart) → FitsParts version image →
+pub comp_there : (version : ℕ) (image : ImageParts) (c : ℕ) (comp : CompPart) → FitsParts version image →
     slice_get image.comps c ≡ Some comp → FitsComp version (length image.comps) comp
 comp_there version image c comp fits at =
     subst (FitsComp version _) (get_or_from_slice_get _ c comp comp at)
@@ -198,7 +198,7 @@ has_no_heap comp low = grind (arith, nat_tests)
 no_heap : (version : ℕ) (comp : CompPart) → version ≡ 1 → flags comp ≤ most_flags version → comp.heap ≡ false
 no_heap version comp first low = has_no_heap comp (subst (λ v. flags comp ≤ most_flags v) first low)
 
-flags_fit : (version : ℕ) (comp : CompPart) → (version ≡ 1 → comp.heap ≡ false) → flags comp ≤ most_flags version
+pub flags_fit : (version : ℕ) (comp : CompPart) → (version ≡ 1 → comp.heap ≡ false) → flags comp ≤ most_flags version
 flags_fit version comp plain = grind (arith, nat_tests)
 
 -- in this version the image can be written

@@ -49,7 +49,10 @@ Ends rest = (cause : BadObject) × (object_at rest ≡ Err cause)
 
 pair_is : (x y : ObjectParts) (r s : List ℕ) (read : Read BadObject ObjectParts) → read ≡ Ok (x, r) →
     read ≡ Ok (y, s) → (x ≡ y) × (r ≡ s)
-pair_is x y r s read one other = let same = sym one ∙ other in (cc same, cc same)
+pair_is x y r s read one other =
+    let same = sym one ∙ other in
+    let pair : ◌≡◌ {A = ObjectParts × List ℕ} (x, r) (y, s) = cc same in
+    (ap (λ p. p.0) pair, ap (λ p. p.1) pair)
 
 no_object : (object : ObjectParts) (objects : List ObjectParts) (rest after : List ℕ) → IsObject object →
     rest ≡ all_bytes_of (object ∷ objects) ++ after → Ends rest → ⊥
@@ -77,7 +80,7 @@ module _ (bytes : List ℕ) where
   whole objects are = are.are ∙ sym (append-nil (all_bytes_of objects))
 
   each_of : (objects : List ObjectParts) → AreBytesOf objects bytes → AllObjects objects
-  each_of objects are = recursion_from_All IsObject _ are.objects.each
+  each_of objects are = recursion_from_All IsObject _ are.good.each
 
   one_list_here : (one other : List ObjectParts) → AreBytesOf one bytes → AreBytesOf other bytes → one ≡ other
   one_list_here one other a b =
@@ -103,7 +106,7 @@ module _ (bytes : List ℕ) where
       elim a.begins [
         | inl none ↦
           let empty = ap length (both.0 ∙ none) in
-          omega (arith, empty, are.objects.some)
+          omega (arith, empty, are.good.some)
         | inr some ↦
           let empty = ap length both.1 in
           omega (arith, empty, some)
@@ -146,15 +149,16 @@ one_more bytes rest object is taken later = record {
 cut_by : (fuel : ℕ) (bytes : List ℕ) → IsBytes bytes → length bytes < fuel → Cut bytes
 cut_by zero bytes fits low = absurd (omega (arith, low))
 cut_by (suc fuel) [] fits low = nothing_left
-cut_by (suc fuel) (byte ∷ bytes) fits low = by (object_at (byte ∷ bytes)) refl
+cut_by (suc fuel) (byte ∷ bytes) fits low = by (cut_by fuel) (object_at (byte ∷ bytes)) refl
   where
-    by : (read : Read BadObject ObjectParts) → object_at (byte ∷ bytes) ≡ read → Cut (byte ∷ bytes)
-    by (Ok (object, rest)) is =
+    by : ((rest : List ℕ) → IsBytes rest → length rest < fuel → Cut rest) → (read : Read BadObject ObjectParts) →
+        object_at (byte ∷ bytes) ≡ read → Cut (byte ∷ bytes)
+    by again (Ok (object, rest)) is =
         let took = object_field.takes (byte ∷ bytes) object rest fits is in
         let sizes = ap length took.0.parts ∙ length-append (object_bytes object) rest in
         one_more (byte ∷ bytes) rest object took.1 took.0.parts
-        (cut_by fuel rest took.0.rest_fits (omega (arith, low, sizes, some_bytes object)))
-    by (Err cause) is = record {
+        (again rest took.0.rest_fits (omega (arith, low, sizes, some_bytes object)))
+    by again (Err cause) is = record {
       objects = [];
       rest = byte ∷ bytes;
       each = tt;
@@ -173,7 +177,7 @@ are_few bytes rest objects are =
 pub are_bytes : (bytes rest : List ℕ) (objects : List ObjectParts) → length bytes < 2 ^ 32 → 0 < length objects →
     AllObjects objects → bytes ≡ all_bytes_of objects ++ rest → rest ≡ [] → AreBytesOf objects bytes
 are_bytes bytes rest objects short some each are none = record {
-  objects = record {
+  good = record {
     some = some;
     few = omega (arith, short, are_few bytes rest objects are);
     each = All-from_recursion IsObject _ each;
@@ -202,11 +206,11 @@ first_bad bytes rest objects cause each are begins bad = record {
 decide : (bytes rest : List ℕ) (objects : List ObjectParts) → length bytes < 2 ^ 32 → AllObjects objects →
     bytes ≡ all_bytes_of objects ++ rest → (rest ≡ []) ⊎ ((0 < length rest) × Ends rest) → Either bytes
 decide bytes rest [] short each are (inl none) =
-    inr (0, (Mark, first_bad bytes rest [] Mark each are (inl refl) (ap object_at none ∙ nothing_read)))
+    inr (0, Mark, first_bad bytes rest [] Mark each are (inl refl) (ap object_at none ∙ nothing_read))
 decide bytes rest (object ∷ objects) short each are (inl none) =
     inl (object ∷ objects, are_bytes bytes rest (object ∷ objects) short (omega arith) each are none)
 decide bytes rest objects short each are (inr left) =
-    inr (length objects, (left.1.0, first_bad bytes rest objects left.1.0 each are (inr left.0) left.1.1))
+    inr (length objects, left.1.0, first_bad bytes rest objects left.1.0 each are (inr left.0) left.1.1)
 
 pub objects_or_bad : ObjectsOrBad
 objects_or_bad bytes all short =

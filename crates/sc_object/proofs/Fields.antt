@@ -1,20 +1,20 @@
 -- The fields of an object: what is read is what is written, and what is written is read again.
-use Rattle.sc_object.proofs.Common.{All-from_recursion, AllByRecursion, Bool, Face, FaceExport, Faces, Code, Globals}
-use Rattle.sc_object.proofs.Common.{Heap, IsFace, IsObject, IsWord, List, Mark, Numbers, ObjectParts, Start, Version}
-use Rattle.sc_object.proofs.Common.{Whole, ap, append_assoc, arith, bit, bytes_decides, code_bytes, codes, eq-eqb}
-use Rattle.sc_object.proofs.Common.{eqb-true, face_at, face_bytes, face_export_bytes, face_exports_at}
-use Rattle.sc_object.proofs.Common.{face_exports_bytes, face_flags, false, false_from_ne_true, flat_map, globals_bytes}
-use Rattle.sc_object.proofs.Common.{imports_bytes, is_between, is_name, is_same_name, is_start, keeps_rules, le-leb}
-use Rattle.sc_object.proofs.Common.{leb-true, length, little_bytes, lit≤, lt-ltb, ltb-true, most_globals, name_bytes}
-use Rattle.sc_object.proofs.Common.{nat_le, nat_lt, nat_tests, not_from_Decides, object_at, object_bytes}
-use Rattle.sc_object.proofs.Common.{object_parts_bytes, parts_at, read_face_export, recursion_from_All, refl, stretch}
-use Rattle.sc_object.proofs.Common.{sym, true, version_at, ℕ, ◌%◌, ◌*◌, ◌++◌, ◌+◌, ◌/◌, ◌<◌, ◌==◌, ◌^◌, ◌∙◌, ◌∷◌, ◌≡◌}
-use Rattle.sc_object.proofs.Common.{◌≤◌, ImportPart, all_bytes, bytes_fit, and_parts}
+use Rattle.sc_object.proofs.Common.{mark_at, if_good, ◌>>=◌, All-from_recursion, AllByRecursion, Bool, Face, FaceExport}
+use Rattle.sc_object.proofs.Common.{Faces, Code, Globals, Heap, IsFace, IsObject, IsWord, List, Mark, Numbers}
+use Rattle.sc_object.proofs.Common.{ObjectParts, Start, Version, Whole, ap, append_assoc, arith, bit, bytes_decides}
+use Rattle.sc_object.proofs.Common.{code_bytes, codes, eq-eqb, eqb-true, face_at, face_bytes, face_export_bytes}
+use Rattle.sc_object.proofs.Common.{face_exports_at, face_exports_bytes, face_flags, false, false_from_ne_true}
+use Rattle.sc_object.proofs.Common.{flat_map, globals_bytes, imports_bytes, is_between, is_name, is_same_name, is_start}
+use Rattle.sc_object.proofs.Common.{keeps_rules, le-leb, leb-true, length, little_bytes, lit≤, lt-ltb, ltb-true}
+use Rattle.sc_object.proofs.Common.{most_globals, name_bytes, nat_le, nat_lt, nat_tests, not_from_Decides, object_at}
+use Rattle.sc_object.proofs.Common.{object_bytes, object_parts_bytes, parts_at, read_face_export, recursion_from_All}
+use Rattle.sc_object.proofs.Common.{refl, stretch, sym, true, version_at, ℕ, ◌%◌, ◌*◌, ◌++◌, ◌+◌, ◌/◌, ◌<◌, ◌==◌, ◌^◌}
+use Rattle.sc_object.proofs.Common.{◌∙◌, ◌∷◌, ◌≡◌, ◌≤◌, ImportPart, and_parts}
 use Rattle.sc_fields.proofs.Compartments.{FitsCode, FitsGlobals, FitsImport, FitsImports, bit_again, bit_fits, bit_of}
 use Rattle.sc_fields.proofs.Compartments.{code_field, comp_name_field, globals_field, imports_field, mark_field}
 use Rattle.sc_fields.proofs.Compartments.{name_field, name_is_bytes}
-use Rattle.sc_fields.proofs.Fields.{IsField, byte_field, followed, four_wide, made, many_field, number_field, restated}
-use Rattle.sc_fields.proofs.Fields.{tested, two_wide}
+use Rattle.sc_fields.proofs.Fields.{all_bytes, bytes_fit, IsField, byte_field, followed, four_wide, made, many_field}
+use Rattle.sc_fields.proofs.Fields.{number_field, restated, tested, two_wide}
 
 -- exports
 
@@ -230,7 +230,7 @@ whole_field : IsField (λ bytes. parts_at bytes >>= (λ parts. if_good Whole (ke
     object_parts_bytes (λ o. FitsParts o × (keeps_rules o ≡ true))
 whole_field = tested parts_field Whole keeps_rules
 
-fits_again : (object : ObjectParts) → FitsParts object → keeps_rules object ≡ true → IsObject object
+pub fits_again : (object : ObjectParts) → FitsParts object → keeps_rules object ≡ true → IsObject object
 fits_again object fits rules = record {
   few_comps = fits.few;
   main = fits.main;

@@ -1,3 +1,12 @@
+mod Alike
 pub mod Common
-pub mod Fields
 pub mod Cuts
+mod Faults
+pub mod Fields
+mod Found
+mod Joining
+mod Keeping
+mod Linked
+mod Programs
+mod Splitting
+mod Turns

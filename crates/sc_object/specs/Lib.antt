@@ -4,3 +4,6 @@ pub mod Rules
 pub mod Reading
 pub mod WellFormed
 pub mod RoundTrip
+pub mod Joining
+pub mod Linking
+pub mod Laws

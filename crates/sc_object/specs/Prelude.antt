@@ -7,3 +7,8 @@ pub use Rattle.sc_object.specs.RoundTrip.{AreBytesOf, BytesNameOneList, IsFirstB
 pub use Rattle.sc_object.specs.RoundTrip.{ObjectsOrBad, OneFirstBad}
 pub use Rattle.sc_object.specs.Rules.{face_keeps, faces_keep, is_offered, is_start, keeps_rules, own_exports}
 pub use Rattle.sc_object.specs.WellFormed.{AreObjects, IsFace, IsFaceExport, IsObject}
+pub use Rattle.sc_object.specs.Joining.{HasEntries, HasOwn, IsJoined, IsObjectOf, face_export, face_of, join_as}
+pub use Rattle.sc_object.specs.Joining.{joined_part, joined_parts, object_for, object_of, with_entries}
+pub use Rattle.sc_object.specs.Laws.{AreObjectsOf, LinkIsCompile, ObjectsAreSeparate}
+pub use Rattle.sc_object.specs.Linking.{CanBeJoined, IsJoinFault, differ_from, has_number, is_same_export}
+pub use Rattle.sc_object.specs.Linking.{is_same_face, is_same_flag, is_same_program, join_fault, missing_from, twice_from}

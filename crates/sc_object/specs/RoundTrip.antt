@@ -10,7 +10,7 @@ use Rattle.sc_object.specs.WellFormed.{AreObjects, IsObject}
 
 -- the bytes are those of the objects, one after the other
 pub record AreBytesOf (objects : List ObjectParts) (bytes : List ℕ) : Type 0 where
-  pub objects : AreObjects objects
+  pub good : AreObjects objects
   pub are : bytes ≡ flat_map object_bytes objects
 
 -- The object of this index is the first that is bad, for this cause: before it stand as many objects. Where bytes are
