@@ -116,12 +116,7 @@ fn most_flags(version: u16) -> u8
 }
 
 #[tactic(auto, unfolding(crate::specs::Reading::read_comp))]
-fn comp_at(
-    alloc: Global,
-    version: u16,
-    comps: u8,
-    bytes: &mut &[u8],
-) -> Result<CompPart, BadField>
+fn comp_at(alloc: Global, version: u16, comps: u8, bytes: &mut &[u8]) -> Result<CompPart, BadField>
     requires { comps ≤ most_compartments }
     ensures { Gives (λ x. (x, bytes.new.now)) result (read_comp version comps bytes.old.now) }
 {
