@@ -46,7 +46,14 @@ fn cut_objects_have_causes_in_order(rt: HostRuntime) -> Result<(), Fail> {
 fn fields_have_their_causes(rt: HostRuntime) -> Result<(), Fail> {
     let main = object_bytes(rt.alloc(), STORE, 0)?;
     let bytes = main.as_bytes();
-    for (at, byte, number) in [(0, 0, 1), (4, 2, 2), (6, 33, 3), (7, 2, 3), (8, 2, 3), (9, 0, 4)] {
+    for (at, byte, number) in [
+        (0, 0, 1),
+        (4, 2, 2),
+        (6, 33, 3),
+        (7, 2, 3),
+        (8, 2, 3),
+        (9, 0, 4),
+    ] {
         let text = changed(rt.alloc(), bytes, at, byte)?;
         assert!(rt; cause(rt.alloc(), text.as_bytes()) == Some((0, number)));
     }

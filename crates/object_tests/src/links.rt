@@ -75,6 +75,11 @@ fn refuses_what_does_not_fit(rt: HostRuntime) -> Result<(), Fail> {
     let twice = fault(rt.alloc(), &twice)?;
     assert!(rt; matches!(twice, Some(JoinFault::Twice { comp, second: 1 }) if comp.number() == 1));
     let differ = joined(rt.alloc(), &main, &web)?;
-    assert!(rt; matches!(fault(rt.alloc(), &differ)?, Some(JoinFault::Differ { second: 1 })));
+    assert!(rt;
+        matches!(
+            fault(rt.alloc(), &differ)?,
+            Some(JoinFault::Differ { second: 1 })
+        )
+    );
     Ok(())
 }

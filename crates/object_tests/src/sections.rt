@@ -1,8 +1,8 @@
 // The objects that tests link.
+use sc_base::Text;
 use sc_compile::compile;
 use sc_event::CompId;
 use sc_image::write_image;
-use sc_base::Text;
 use sc_object::{object, write_object};
 use sc_types::SourceText;
 use std::alloc::Global;

@@ -110,7 +110,8 @@ tested {A} {C} {f} {t} {F} h cause passes = record {
 
 -- a field and then another, whose value holds that of the first
 pub followed : {A B C : Type 0} {f : List ℕ → Read C A} {t : A → List ℕ} {F : A → Type 0}
-    {g : A → List ℕ → Read C B} {u : A → B → List ℕ} {G : A → B → Type 0} → IsField f t F → (first : B → A) → ((a : A) → F a → IsField (g a) (u a) (G a)) →
+    {g : A → List ℕ → Read C B} {u : A → B → List ℕ} {G : A → B → Type 0} → IsField f t F →
+    (first : B → A) → ((a : A) → F a → IsField (g a) (u a) (G a)) →
     ((a : A) (y : B) → F a → G a y → first y ≡ a) → IsField (λ bytes. f bytes >>= (λ x. g x.0 x.1))
     (λ y. t (first y) ++ u (first y) y) (λ y. F (first y) × G (first y) y)
 followed {A} {B} {C} {f} {t} {F} {g} {u} {G} h first k keeps = record {

@@ -68,7 +68,7 @@ same_cut [] (y ∷ ys) r s good also same one other = absurd (no_object y ys r s
 same_cut (x ∷ xs) [] r s good also same one other = absurd (no_object x xs s r good.0 (sym same) other)
 same_cut (x ∷ xs) (y ∷ ys) r s good also same one other =
     let pair = pair_is x y (all_bytes_of xs ++ r) (all_bytes_of ys ++ s) (object_at (all_bytes_of (y ∷ ys) ++ s))
-        (ap object_at (sym same) ∙ cut_first x xs r good.0) (cut_first y ys s also.0) in
+    (ap object_at (sym same) ∙ cut_first x xs r good.0) (cut_first y ys s also.0) in
     let later = same_cut xs ys r s good.1 also.1 pair.1 one other in
     (ap₂ (λ z zs. z ∷ zs) pair.0 later.0, later.1)
 
@@ -102,14 +102,14 @@ module _ (bytes : List ℕ) where
       IsFirstBad bytes i cause → ⊥
   never_bad objects i cause are a =
       let both = same_cut objects a.before [] a.rest (each_of objects are) (recursion_from_All IsObject _ a.each)
-          (sym (whole objects are) ∙ a.are) (Mark, nothing_read) (cause, a.bad) in
+      (sym (whole objects are) ∙ a.are) (Mark, nothing_read) (cause, a.bad) in
       elim a.begins [
         | inl none ↦
-          let empty = ap length (both.0 ∙ none) in
-          omega (arith, empty, are.good.some)
+            let empty = ap length (both.0 ∙ none) in
+            omega (arith, empty, are.good.some)
         | inr some ↦
-          let empty = ap length both.1 in
-          omega (arith, empty, some)
+            let empty = ap length both.1 in
+            omega (arith, empty, some)
       ]
 
 pub one_list : BytesNameOneList

@@ -152,7 +152,7 @@ is_new before i (first ∷ objects) none k object there j other low at same =
     by again false seen none zero there low =
         let here : first ≡ object = cc there in
         let found = has_it before first.own j other (left_of before (first ∷ objects) j other (omega (arith, low)) at)
-            (same ∙ ap (λ (o : ObjectParts). o.own) (sym here)) in
+        (same ∙ ap (λ (o : ObjectParts). o.own) (sym here)) in
         let never = sym found ∙ seen in
         cc never
     by again false seen none (suc k) there low =

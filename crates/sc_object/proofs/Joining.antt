@@ -29,14 +29,14 @@ module _ (image : ImageParts) (formed : IsWellFormed image) (entries : HasEntrie
   part_so c comp there =
       let object = found c (slice_get_within image.comps c comp there) in
       let heap : option_map_or (λ (o : ObjectParts). o.heap) (object_for objects c) false ≡ comp.heap =
-          ap (λ found. option_map_or (λ (o : ObjectParts). o.heap) found false) object ∙
-          ap (λ found. option_map_or (λ (comp : CompPart). comp.heap) found false) there in
+      ap (λ found. option_map_or (λ (o : ObjectParts). o.heap) found false) object ∙
+      ap (λ found. option_map_or (λ (comp : CompPart). comp.heap) found false) there in
       let code : option_map_or (λ (o : ObjectParts). o.code) (object_for objects c) [] ≡ comp.code =
-          ap (λ found. option_map_or (λ (o : ObjectParts). o.code) found []) object ∙
-          ap (λ found. option_map_or (λ (comp : CompPart). comp.code) found []) there in
+      ap (λ found. option_map_or (λ (o : ObjectParts). o.code) found []) object ∙
+      ap (λ found. option_map_or (λ (comp : CompPart). comp.code) found []) there in
       let globals : option_map_or (λ (o : ObjectParts). o.globals) (object_for objects c) [] ≡ comp.globals =
-          ap (λ found. option_map_or (λ (o : ObjectParts). o.globals) found []) object ∙
-          ap (λ found. option_map_or (λ (comp : CompPart). comp.globals) found []) there in
+      ap (λ found. option_map_or (λ (o : ObjectParts). o.globals) found []) object ∙
+      ap (λ found. option_map_or (λ (comp : CompPart). comp.globals) found []) there in
       let exports = sym (entries c comp there) in
       λ i. record comp { heap = heap i; exports = exports i; code = code i; globals = globals i }
 
@@ -47,18 +47,18 @@ module _ (image : ImageParts) (formed : IsWellFormed image) (entries : HasEntrie
       let here : c + 0 ≡ c = omega arith in
       let first = part_so c comp (subst (λ n. slice_get image.comps n ≡ Some comp) here (at 0 comp refl)) in
       let later = parts_from (suc c) comps (λ i other there.
-          let next : c + suc i ≡ suc c + i = omega arith in
-          subst (λ n. slice_get image.comps n ≡ Some other) next (at (suc i) other there)) in
+      let next : c + suc i ≡ suc c + i = omega arith in
+      subst (λ n. slice_get image.comps n ≡ Some other) next (at (suc i) other there)) in
       ap₂ (λ x xs. x ∷ xs) first later
 
   entry_so : code_start image.main +
       option_map_or (λ (o : ObjectParts). o.main_at) (object_for objects image.main) 0 ≡ image.entry
   entry_so =
       let object = ap (λ found. option_map_or (λ (o : ObjectParts). o.main_at) found 0)
-          (found image.main formed.main) in
+      (found image.main formed.main) in
       let here : (object_of image image.main).main_at ≡ image.entry - code_start image.main =
-          ap (λ same. if same then image.entry - code_start image.main else 0)
-          (eq-eqb image.main image.main refl) in
+      ap (λ same. if same then image.entry - code_start image.main else 0)
+      (eq-eqb image.main image.main refl) in
       let word = main_word_of image formed in
       omega (arith, object, here, word.above)
 
@@ -66,9 +66,9 @@ module _ (image : ImageParts) (formed : IsWellFormed image) (entries : HasEntrie
   joined_as : (head : ObjectParts) (c : ℕ) → head ≡ object_of image c → join_as head objects ≡ image
   joined_as head c is =
       let comps = parts_from 0 image.comps (λ i comp there.
-          let same : i ≡ 0 + i = omega arith in subst (λ n. slice_get image.comps n ≡ Some comp) same there) in
+      let same : i ≡ 0 + i = omega arith in subst (λ n. slice_get image.comps n ≡ Some comp) same there) in
       let whole : join_as (object_of image c) objects ≡ image =
-          λ i. record { main = image.main; entry = entry_so i; comps = comps i } in
+      λ i. record { main = image.main; entry = entry_so i; comps = comps i } in
       ap (λ head. join_as head objects) is ∙ whole
 
   pub joined_is : (joined : ImageParts) → IsJoined objects joined → joined ≡ image
@@ -90,7 +90,7 @@ module _ (image : ImageParts) (formed : IsWellFormed image) (entries : HasEntrie
   all_here head first =
       let count = ap (λ (x : ObjectParts). length x.faces) (are.each 0 head first).1 ∙ length-map image.comps face_of in
       none_missing objects 0 (length head.faces) (λ k low high.
-          let of = of_comp k (omega (arith, low, count)) in has_it objects k of.place of.object of.there of.own)
+      let of = of_comp k (omega (arith, low, count)) in has_it objects k of.place of.object of.there of.own)
 
 links : (image : ImageParts) (objects : List ObjectParts) → IsWellFormed image → HasEntries image →
     AreObjectsOf image objects → join_fault objects ≡ None

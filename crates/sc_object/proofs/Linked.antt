@@ -195,9 +195,9 @@ module _ (head : ObjectParts) (objects : List ObjectParts) (good : (i : ℕ) (ob
   main_word =
       let it = its head.main head_fits.main in
       let is_main : (it.object.main == it.object.own) ≡ true =
-          eq-eqb it.object.main it.object.own (sym it.same.main ∙ sym it.own) in
+      eq-eqb it.object.main it.object.own (sym it.same.main ∙ sym it.own) in
       let is : is_start true (length it.object.code) it.object.main_at ≡ true =
-          subst (λ m. is_start m (length it.object.code) it.object.main_at ≡ true) is_main it.fits.start in
+      subst (λ m. is_start m (length it.object.code) it.object.main_at ≡ true) is_main it.fits.start in
       let both = and_parts (it.object.main_at % 4 == 0) _ is in
       let whole = eqb-true (it.object.main_at % 4) 0 both.0 in
       let offset = ap (λ found. option_map_or (λ (object : ObjectParts). object.main_at) found 0) it.found in
@@ -265,9 +265,9 @@ module _ (head : ObjectParts) (objects : List ObjectParts) (good : (i : ℕ) (ob
       let rules = and_parts (are_distinct_by is_same_name (map (λ (face : Face). face.name) object.faces)) _ it.rules in
       let enough = leb-true _ _ (and_parts (faces_keep object.faces 0 object.faces) _ rules.1).1 in
       let its_face : slice_get object.faces object.own ≡ Some face =
-          ap (slice_get object.faces) it.own ∙ (ap (λ list. slice_get list c) (sym it.same.faces) ∙ there) in
+      ap (slice_get object.faces) it.own ∙ (ap (λ list. slice_get list c) (sym it.same.faces) ∙ there) in
       let count : own_exports object ≡ length face.exports =
-          ap (λ found. option_map_or (λ (face : Face). length face.exports) found 0) its_face in
+      ap (λ found. option_map_or (λ (face : Face). length face.exports) found 0) its_face in
       let code = ap length (own_code c face object there it.found) in
       omega (arith, enough, count, code)
 

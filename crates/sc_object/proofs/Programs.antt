@@ -112,21 +112,21 @@ separate program other image its c is other_is same_interfaces same_section =
     let its_so = image_is other its other_is in
     let part = parts_are_separate program other image its c is other_is same_interfaces same_section in
     let main : image.main ≡ its.main =
-        ap (λ (i : ImageParts). i.main) (sym image_so) ∙ (ap (λ (i : Interfaces). i.main) same_interfaces ∙
-        ap (λ (i : ImageParts). i.main) its_so) in
+    ap (λ (i : ImageParts). i.main) (sym image_so) ∙ (ap (λ (i : Interfaces). i.main) same_interfaces ∙
+    ap (λ (i : ImageParts). i.main) its_so) in
     let faces : map face_of image.comps ≡ map face_of its.comps =
-        ap (λ (i : ImageParts). map face_of i.comps) (sym image_so) ∙
-        (faces_are program (all_codes (lowered_program program)) 0 program.interfaces.comps ∙
-        (ap (λ (i : Interfaces). faces_in i 0 i.comps) same_interfaces ∙
-        (sym (faces_are other (all_codes (lowered_program other)) 0 other.interfaces.comps) ∙
-        ap (λ (i : ImageParts). map face_of i.comps) its_so))) in
+    ap (λ (i : ImageParts). map face_of i.comps) (sym image_so) ∙
+    (faces_are program (all_codes (lowered_program program)) 0 program.interfaces.comps ∙
+    (ap (λ (i : Interfaces). faces_in i 0 i.comps) same_interfaces ∙
+    (sym (faces_are other (all_codes (lowered_program other)) 0 other.interfaces.comps) ∙
+    ap (λ (i : ImageParts). map face_of i.comps) its_so))) in
     let heap = ap (λ found. option_map_or (λ (comp : CompPart). comp.heap) found false) part in
     let code = ap (λ found. option_map_or (λ (comp : CompPart). comp.code) found []) part in
     let globals = ap (λ found. option_map_or (λ (comp : CompPart). comp.globals) found []) part in
     let main_at : (object_of image c).main_at ≡ (object_of its c).main_at =
-        ap (λ (i : ImageParts). (object_of i c).main_at) (sym image_so) ∙
-        (main_at_so program c ∙ (ap₂ (λ i section. main_at_by i c section) same_interfaces same_section ∙
-        (sym (main_at_so other c) ∙ ap (λ (i : ImageParts). (object_of i c).main_at) its_so))) in
+    ap (λ (i : ImageParts). (object_of i c).main_at) (sym image_so) ∙
+    (main_at_so program c ∙ (ap₂ (λ i section. main_at_by i c section) same_interfaces same_section ∙
+    (sym (main_at_so other c) ∙ ap (λ (i : ImageParts). (object_of i c).main_at) its_so))) in
     λ i. record {
       main = main i;
       own = c;

@@ -102,7 +102,7 @@ module _ (image : ImageParts) where
   kept_of c comp is =
       let both = and_parts (exports_keep image c comp.exports) (imports_keep image c comp.imports) is in
       let exports = and_parts (are_entries c comp.exports)
-          (names_distinct comp.exports && entries_distinct comp.exports) both.0 in
+      (names_distinct comp.exports && entries_distinct comp.exports) both.0 in
       let names = and_parts (names_distinct comp.exports) (entries_distinct comp.exports) exports.1 in
       let imports = and_parts (list_all (is_importable image c) comp.imports) _ both.1 in
       record { entries = exports.0; names = names.0; offered = imports.0; imports = imports.1 }

@@ -1,9 +1,9 @@
 -- One turn of each loop of linking.
 use Rattle.sc_object.proofs.Common.{CompPart, Differ, ExportPart, Face, FaceExport, List, Missing, ObjectParts, Some}
-use Rattle.sc_object.proofs.Common.{Twice, [], ap, append_assoc, arith, code_start, differ_from, drop, drop_more, get_or}
-use Rattle.sc_object.proofs.Common.{has_number, if◌then◌else◌, is_same_program, joined_part, joined_parts, length}
-use Rattle.sc_object.proofs.Common.{missing_from, object_for, refl, suc, sym, take, take_more, twice_from, with_entries}
-use Rattle.sc_object.proofs.Common.{ℕ, ◌*◌, ◌++◌, ◌+◌, ◌-◌, ◌<◌, ◌∙◌, ◌∷◌, ◌≡◌}
+use Rattle.sc_object.proofs.Common.{Twice, [], ap, append_assoc, arith, code_start, differ_from, drop, drop_more}
+use Rattle.sc_object.proofs.Common.{get_or, has_number, if◌then◌else◌, is_same_program, joined_part, joined_parts}
+use Rattle.sc_object.proofs.Common.{length, missing_from, object_for, suc, sym, take, take_more, twice_from}
+use Rattle.sc_object.proofs.Common.{with_entries, ℕ, ◌*◌, ◌++◌, ◌+◌, ◌-◌, ◌<◌, ◌∙◌, ◌∷◌, ◌≡◌}
 
 module _ {A : Type 0} (xs : List A) (i : ℕ) (x : A) (within : i < length xs) (here : x ≡ get_or xs i x) where
   left : drop i xs ≡ x ∷ drop (i + 1) xs

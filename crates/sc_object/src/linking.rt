@@ -62,11 +62,7 @@ pub fn link_objects(alloc: Global, objects: &Objects) -> Result<Image, JoinFault
 }
 
 // The image of objects that can be joined.
-fn joined(
-    alloc: Global,
-    head: &ObjectParts,
-    objects: &[ObjectParts],
-) -> Result<Image, OutOfMemory>
+fn joined(alloc: Global, head: &ObjectParts, objects: &[ObjectParts]) -> Result<Image, OutOfMemory>
     requires { CanBeJoined head.now objects.now }
     ensures image { IfOk result (λ image. image ≡ join_as head.now objects.now) }
     ensures own { IfOk result (λ image. All (HasOwn image) objects.now) }

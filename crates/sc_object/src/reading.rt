@@ -9,9 +9,7 @@ ghost use Rattle.std.specs.Prelude.{◌≡◌, ◌≤◌, ◌<◌, ◌^◌, ℕ,
 ghost use Rattle.sc_object.specs.declared.fault.ObjectsFault.TheVariants.{Bad};
 
 use crate::rules::keeps_rules;
-use crate::{
-    BadObject, Face, FaceExport, FaceExports, Faces, Objects, ObjectParts, ObjectsFault,
-};
+use crate::{BadObject, Face, FaceExport, FaceExports, Faces, ObjectParts, Objects, ObjectsFault};
 use sc_event::CompId;
 use sc_fields::{
     FieldFault, code_at, comp_id_at, comp_name_at, globals_at, imports_at, mark_at, name_at, u8_at,

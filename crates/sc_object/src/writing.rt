@@ -5,9 +5,7 @@ ghost use Rattle.std.specs.Prelude.{◌≡◌, ◌^◌, ◌<◌, ◌++◌, lengt
 use crate::reading::VERSION;
 use crate::{Face, FaceExport, Object};
 use sc_base::{OutOfMemory, Text};
-use sc_fields::{
-    append_code, append_globals, append_imports, append_name, append_u16, append_u32,
-};
+use sc_fields::{append_code, append_globals, append_imports, append_name, append_u16, append_u32};
 use std::alloc::Global;
 
 /// The bytes of the object.

@@ -23,4 +23,5 @@ loop-preserved g c =
 pub returns : goal.returns
 returns g c =
     is_done (import_at c.args.cause c.args.comps) c.args.count c.loop.imports c.loop.counter c.loop.bytes.now
-    (fields_at (import_at c.args.cause c.args.comps) c.args.count c.args.bytes.now.now) c.loop-test.false c.loop.invariant
+    (fields_at (import_at c.args.cause c.args.comps) c.args.count c.args.bytes.now.now) c.loop-test.false
+    c.loop.invariant

@@ -14,4 +14,5 @@ new-requires c = record {
 
 pub returns-clause-own : goal.returns-clause-own
 returns-clause-own c =
-    rw c.new.ensures (joined_own c.args.head.now c.args.objects.now c.requires c.in_ok-parts.parts c.in_ok-parts.ensures)
+    rw c.new.ensures
+    (joined_own c.args.head.now c.args.objects.now c.requires c.in_ok-parts.parts c.in_ok-parts.ensures)
