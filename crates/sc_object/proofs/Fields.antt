@@ -1,15 +1,15 @@
 -- The fields of an object: what is read is what is written, and what is written is read again.
-use Rattle.sc_object.proofs.Common.{mark_at, if_good, ◌>>=◌, All-from_recursion, AllByRecursion, Bool, Face, FaceExport}
-use Rattle.sc_object.proofs.Common.{Faces, Code, Globals, Heap, IsFace, IsObject, IsWord, List, Mark, Numbers}
-use Rattle.sc_object.proofs.Common.{ObjectParts, Start, Version, Whole, ap, append_assoc, arith, bit, bytes_decides}
-use Rattle.sc_object.proofs.Common.{code_bytes, codes, eq-eqb, eqb-true, face_at, face_bytes, face_export_bytes}
-use Rattle.sc_object.proofs.Common.{face_exports_at, face_exports_bytes, face_flags, false, false_from_ne_true}
-use Rattle.sc_object.proofs.Common.{flat_map, globals_bytes, imports_bytes, is_between, is_name, is_same_name, is_start}
-use Rattle.sc_object.proofs.Common.{keeps_rules, le-leb, leb-true, length, little_bytes, lit≤, lt-ltb, ltb-true}
-use Rattle.sc_object.proofs.Common.{most_globals, name_bytes, nat_le, nat_lt, nat_tests, not_from_Decides, object_at}
-use Rattle.sc_object.proofs.Common.{object_bytes, object_parts_bytes, parts_at, read_face_export, recursion_from_All}
-use Rattle.sc_object.proofs.Common.{refl, stretch, sym, true, version_at, ℕ, ◌%◌, ◌*◌, ◌++◌, ◌+◌, ◌/◌, ◌<◌, ◌==◌, ◌^◌}
-use Rattle.sc_object.proofs.Common.{◌∙◌, ◌∷◌, ◌≡◌, ◌≤◌, ImportPart, and_parts}
+use Rattle.sc_object.proofs.Common.{All, FaceFits, mark_at, if_good, ◌>>=◌, All-from_recursion, AllByRecursion, Bool}
+use Rattle.sc_object.proofs.Common.{Face, FaceExport, Faces, Code, Globals, Heap, IsFace, IsObject, IsWord, List, Mark}
+use Rattle.sc_object.proofs.Common.{Numbers, ObjectParts, Start, Version, Whole, ap, append_assoc, arith, bit}
+use Rattle.sc_object.proofs.Common.{bytes_decides, code_bytes, codes, eq-eqb, eqb-true, face_at, face_bytes}
+use Rattle.sc_object.proofs.Common.{face_export_bytes, face_exports_at, face_exports_bytes, face_flags, false}
+use Rattle.sc_object.proofs.Common.{false_from_ne_true, flat_map, globals_bytes, imports_bytes, is_between, is_name}
+use Rattle.sc_object.proofs.Common.{is_same_name, is_start, keeps_rules, le-leb, leb-true, length, little_bytes, lit≤}
+use Rattle.sc_object.proofs.Common.{lt-ltb, ltb-true, most_globals, name_bytes, nat_le, nat_lt, nat_tests}
+use Rattle.sc_object.proofs.Common.{not_from_Decides, object_at, object_bytes, object_parts_bytes, parts_at}
+use Rattle.sc_object.proofs.Common.{read_face_export, recursion_from_All, refl, stretch, sym, true, version_at, ℕ, ◌%◌}
+use Rattle.sc_object.proofs.Common.{◌*◌, ◌++◌, ◌+◌, ◌/◌, ◌<◌, ◌==◌, ◌^◌, ◌∙◌, ◌∷◌, ◌≡◌, ◌≤◌, ImportPart, and_parts}
 use Rattle.sc_fields.proofs.Compartments.{FitsCode, FitsGlobals, FitsImport, FitsImports, bit_again, bit_fits, bit_of}
 use Rattle.sc_fields.proofs.Compartments.{code_field, comp_name_field, globals_field, imports_field, mark_field}
 use Rattle.sc_fields.proofs.Compartments.{name_field, name_is_bytes}
@@ -289,3 +289,9 @@ object_field = restated (followed mark_of_objects (λ (o : ObjectParts). codes "
     (λ mark y a b. sym a))
     (λ o h. refl)
     (λ o h. fits_again o h.1.1.0 h.1.1.1) (λ o is. (refl, (refl, (object_fits o is, is.rules))))
+
+-- the lengths of an object's faces fit their fields
+pub faces_fit : (object : ObjectParts) → IsObject object → All FaceFits object.faces
+faces_fit object is i d within =
+    let face = is.faces i d within in
+    record { exports = omega (arith, face.few_exports); imports = omega (arith, face.few_imports) }
