@@ -6,7 +6,7 @@ pub use Rattle.std.proofs.Common.{nat_lt, refl, subst, suc, sym, true, zero, ℕ
 pub use Rattle.std.proofs.Common.{◌<◌, ◌==◌, ◌^◌, ◌∙◌, ◌∷◌, ◌≡◌, ◌≢◌, ◌≤◌, ◌⊎◌, take, cond, if◌then◌else◌, is_some, not}
 pub use Rattle.std.proofs.Common.{◌||◌}
 pub use Rattle.std.proofs.Math.ListN.{drop_of_length-le}
-pub use Rattle.std.proofs.lemmas.List.{drop_more, take_more}
+pub use Rattle.std.proofs.lemmas.List.{drop_more, length-map, take_more}
 pub use Rattle.std.proofs.lemmas.Bool.{and_from, and_parts, false_from_ne_true, cases_lt}
 pub use Rattle.std.proofs.lemmas.Bool.Decides.{nat_tests, not_from_Decides}
 pub use Rattle.std.proofs.lemmas.List.Concat.{flat_map-append, flat_map-cons}
