@@ -1,4 +1,4 @@
-use crate::sections::{MENDED, RENAMED, STORE, image_bytes, object_bytes};
+use crate::object_sections::{MENDED, RENAMED, STORE, image_bytes, object_bytes};
 use sc_base::Text;
 use sc_event::Event;
 use sc_image::write_image;

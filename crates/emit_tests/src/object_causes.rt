@@ -1,4 +1,4 @@
-use crate::sections::{STORE, object_bytes};
+use crate::object_sections::{STORE, object_bytes};
 use sc_base::Text;
 use sc_object::{ObjectsFault, read_objects};
 use std::alloc::Global;
