@@ -219,17 +219,12 @@ objects_or_bad bytes all short =
 
 -- Reading them one by one.
 
-pub read_so : (before : List ObjectParts) (left rest : List ℕ) (object : ObjectParts) → IsBytes left →
-    object_at left ≡ Ok (object, rest) → IsReadSo before left (before ++ object ∷ []) rest
-read_so before left rest object fits read =
-    let took = object_field.takes left object rest fits read in
-    record { object = object; good = took.1; taken = took.0.parts; added = refl }
-
 -- after `rounds` more than the first
 pub record IsReading (bytes : List ℕ) (objects : List ObjectParts) (rest : List ℕ) (rounds : ℕ) : Type 0 where
   pub count : length objects ≡ rounds + 1
   pub each : AllObjects objects
   pub are : bytes ≡ all_bytes_of objects ++ rest
+  pub fits : IsBytes rest
 
 with_last : (objects : List ObjectParts) (last : ObjectParts) → AllObjects objects → IsObject last →
     AllObjects (objects ++ last ∷ [])
@@ -246,23 +241,28 @@ bytes_with_last objects last rest =
 module _ (bytes : List ℕ) where
   pub reads_more : (objects after : List ObjectParts) (rest left : List ℕ) (rounds : ℕ) →
       IsReading bytes objects rest rounds → IsReadSo objects rest after left → IsReading bytes after left (rounds + 1)
-  reads_more objects after rest left rounds so_far read = record {
-    count = ap length read.added ∙ (length-append objects (read.object ∷ []) ∙
-        ap (λ n. n + 1) so_far.count);
-    each = subst AllObjects (sym read.added) (with_last objects read.object so_far.each read.good);
-    are = so_far.are ∙ (ap (λ text. all_bytes_of objects ++ text) read.taken ∙
-        (bytes_with_last objects read.object left ∙ ap (λ list. all_bytes_of list ++ left) (sym read.added)));
-  }
+  reads_more objects after rest left rounds so_far read =
+      let took = object_field.takes rest read.object left so_far.fits read.read in
+      record {
+        count = ap length read.added ∙ (length-append objects (read.object ∷ []) ∙
+            ap (λ n. n + 1) so_far.count);
+        each = subst AllObjects (sym read.added) (with_last objects read.object so_far.each took.1);
+        are = so_far.are ∙ (ap (λ text. all_bytes_of objects ++ text) took.0.parts ∙
+            (bytes_with_last objects read.object left ∙ ap (λ list. all_bytes_of list ++ left) (sym read.added)));
+        fits = took.0.rest_fits;
+      }
 
-  pub reads_first : (before after : List ObjectParts) (left : List ℕ) → before ≡ [] →
+  pub reads_first : (before after : List ObjectParts) (left : List ℕ) → IsBytes bytes → before ≡ [] →
       IsReadSo before bytes after left → IsReading bytes after left 0
-  reads_first before after left none read =
+  reads_first before after left fits none read =
+      let took = object_field.takes bytes read.object left fits read.read in
       let added = read.added ∙ ap (λ list. list ++ read.object ∷ []) none in
       record {
         count = ap length added;
-        each = subst AllObjects (sym added) (read.good, tt);
-        are = read.taken ∙ ap (λ text. text ++ left) (sym (append-nil (object_bytes read.object))) ∙
-            ap (λ list. all_bytes_of list ++ left) (sym added);
+        each = subst AllObjects (sym added) (took.1, tt);
+        are = took.0.parts ∙ (ap (λ text. text ++ left) (sym (append-nil (object_bytes read.object))) ∙
+            ap (λ list. all_bytes_of list ++ left) (sym added));
+        fits = took.0.rest_fits;
       }
 
   pub reads_few : (objects : List ObjectParts) (rest : List ℕ) (rounds : ℕ) → IsReading bytes objects rest rounds →

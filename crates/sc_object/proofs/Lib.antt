@@ -7,6 +7,7 @@ mod Found
 mod Joining
 mod Keeping
 mod Linked
+mod Links
 mod Programs
 mod Splitting
 mod Turns

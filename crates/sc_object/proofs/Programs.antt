@@ -6,7 +6,7 @@ use Rattle.sc_object.proofs.Common.{arith, built_image, code_start, comp_at, com
 use Rattle.sc_object.proofs.Common.{export_parts, exports_in, face_export, face_of, false, function_address}
 use Rattle.sc_object.proofs.Common.{if◌then◌else◌, image_of, main_name, map, object_of, option_map_or, place_named}
 use Rattle.sc_object.proofs.Common.{refl, section_addresses, section_or_none, slice_get, subst, suc, sym, true}
-use Rattle.sc_object.proofs.Common.{with_entries, zero, ℕ, ◌+◌, ◌-◌, ◌==◌, ◌∙◌, ◌∷◌, ◌≡◌}
+use Rattle.sc_object.proofs.Common.{with_entries, zero, ℕ, ◌+◌, ◌-◌, ◌<◌, ◌==◌, ◌∙◌, ◌∷◌, ◌≡◌}
 use Rattle.sc_compile.proofs.Parts.{codes_so, image_is, own_codes, parts_are_separate}
 use Rattle.sc_compile.specs.Prelude.{all_codes}
 use Rattle.sc_lower.specs.Prelude.{lowered_program}
@@ -47,6 +47,21 @@ has_entries program image is =
     subst HasEntries (image_is program image is)
     (λ c comp there. entries_from program (all_codes (lowered_program program)) 0 program.interfaces.comps c c comp
     (omega arith) there)
+
+module _ (program : ProgramTree) (codes : List CodeTree) where
+  parts_count : (k : ℕ) (interfaces : List Interface) →
+      length (comp_parts program codes k interfaces) ≡ length interfaces
+  parts_count k [] = refl
+  parts_count k (interface ∷ interfaces) = ap suc (parts_count (suc k) interfaces)
+
+-- an image has as many compartments as its program
+pub has_comps : (program : ProgramTree) (image : ImageParts) (c : ℕ) → image_of program ≡ Ok image →
+    c < length program.interfaces.comps → c < length image.comps
+has_comps program image c is low =
+    let count : length image.comps ≡ length program.interfaces.comps =
+    subst (λ (image : ImageParts). length image.comps ≡ length program.interfaces.comps) (image_is program image is)
+    (parts_count program (all_codes (lowered_program program)) 0 program.interfaces.comps) in
+    omega (arith, low, count)
 
 -- Faces are told by the interfaces alone.
 

@@ -28,8 +28,7 @@ pub record IsFirstBad (bytes : List ℕ) (index : ℕ) (cause : BadObject) : Typ
 pub record IsReadSo (before : List ObjectParts) (left : List ℕ) (after : List ObjectParts) (rest : List ℕ) :
     Type 0 where
   pub object : ObjectParts
-  pub good : IsObject object
-  pub taken : left ≡ object_bytes object ++ rest
+  pub read : object_at left ≡ Ok (object, rest)
   pub added : after ≡ before ++ object ∷ []
 
 -- What is written of an object is read as that object, whatever follows.

@@ -7,6 +7,7 @@ ghost use Rattle.sc_base.specs.Prelude.{most_compartments, most_exports};
 ghost use Rattle.sc_image.specs.Prelude.{stretch};
 ghost use Rattle.std.specs.Prelude.{◌≡◌, ◌≤◌, ◌<◌, ◌^◌, [], All, IfErr, IfOk, None, Some, length};
 ghost use Rattle.std.specs.Option.{option_copied, option_map_or};
+ghost use Rattle.sc_object.specs.declared.linking.JoinFault.TheVariants.{OutOfMemory};
 
 use crate::compiling::copied;
 use crate::same::is_same_program;
@@ -37,9 +38,9 @@ pub enum JoinFault {
 }
 
 impl From<OutOfMemory> for JoinFault {
-    fn from(_: OutOfMemory) -> JoinFault
-        ensures { result ≡ JoinFault.OutOfMemory }
-    {
+    ghost from_gives = { λ _ fault. fault ≡ OutOfMemory };
+
+    fn from(_: OutOfMemory) -> JoinFault {
         JoinFault::OutOfMemory
     }
 }
@@ -191,7 +192,7 @@ fn joined_part(
     object: Option<&ObjectParts>,
 ) -> Result<CompPart, OutOfMemory>
     requires { length face.now.exports ≤ most_exports }
-    ensures { IfOk result (λ part. part ≡ joined_part comp face.now (option_copied object)) }
+    ensures { IfOk result (λ part. part ≡ joined_part comp face.now (option_copied object.entry)) }
 {
     let (heap, code, globals) = match object {
         None => (false, Words::new(alloc), Text::new(alloc)),

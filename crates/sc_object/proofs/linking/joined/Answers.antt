@@ -1,11 +1,11 @@
 use Rattle.sc_object.proofs.Linked.{head_good, joined_own, joined_well}
 use Rattle.sc_object.proofs.linking.joined.Goals as goal
 
-pub join-requires-head : goal.join-requires-head
-join-requires-head c = head_good c.args.head.now c.args.objects.now c.requires
+pub join-requires-clause-head : goal.join-requires-clause-head
+join-requires-clause-head c = head_good c.args.head.now c.args.objects.now c.requires
 
-pub join-requires-each : goal.join-requires-each
-join-requires-each c = c.requires.each
+pub join-requires-clause-each : goal.join-requires-clause-each
+join-requires-clause-each c = c.requires.each
 
 pub new-requires : goal.new-requires
 new-requires c = record {
