@@ -219,9 +219,9 @@ objects_or_bad bytes all short =
 
 -- Reading them one by one.
 
--- after `rounds` more than the first
-pub record IsReading (bytes : List ℕ) (objects : List ObjectParts) (rest : List ℕ) (rounds : ℕ) : Type 0 where
-  pub count : length objects ≡ rounds + 1
+-- one object or more are read, and this is left
+pub record IsReading (bytes : List ℕ) (objects : List ObjectParts) (rest : List ℕ) : Type 0 where
+  pub some : 0 < length objects
   pub each : AllObjects objects
   pub are : bytes ≡ all_bytes_of objects ++ rest
   pub fits : IsBytes rest
@@ -239,13 +239,13 @@ bytes_with_last objects last rest =
     sym (flat_map-append object_bytes objects (last ∷ [])))
 
 module _ (bytes : List ℕ) where
-  pub reads_more : (objects after : List ObjectParts) (rest left : List ℕ) (rounds : ℕ) →
-      IsReading bytes objects rest rounds → IsReadSo objects rest after left → IsReading bytes after left (rounds + 1)
-  reads_more objects after rest left rounds so_far read =
+  pub reads_more : (objects after : List ObjectParts) (rest left : List ℕ) → IsReading bytes objects rest →
+      IsReadSo objects rest after left → IsReading bytes after left
+  reads_more objects after rest left so_far read =
       let took = object_field.takes rest read.object left so_far.fits read.read in
+      let count = ap length read.added ∙ length-append objects (read.object ∷ []) in
       record {
-        count = ap length read.added ∙ (length-append objects (read.object ∷ []) ∙
-            ap (λ n. n + 1) so_far.count);
+        some = omega (arith, count);
         each = subst AllObjects (sym read.added) (with_last objects read.object so_far.each took.1);
         are = so_far.are ∙ (ap (λ text. all_bytes_of objects ++ text) took.0.parts ∙
             (bytes_with_last objects read.object left ∙ ap (λ list. all_bytes_of list ++ left) (sym read.added)));
@@ -253,37 +253,44 @@ module _ (bytes : List ℕ) where
       }
 
   pub reads_first : (before after : List ObjectParts) (left : List ℕ) → IsBytes bytes → before ≡ [] →
-      IsReadSo before bytes after left → IsReading bytes after left 0
+      IsReadSo before bytes after left → IsReading bytes after left
   reads_first before after left fits none read =
       let took = object_field.takes bytes read.object left fits read.read in
       let added = read.added ∙ ap (λ list. list ++ read.object ∷ []) none in
+      let count = ap length added in
       record {
-        count = ap length added;
+        some = omega (arith, count);
         each = subst AllObjects (sym added) (took.1, tt);
         are = took.0.parts ∙ (ap (λ text. text ++ left) (sym (append-nil (object_bytes read.object))) ∙
             ap (λ list. all_bytes_of list ++ left) (sym added));
         fits = took.0.rest_fits;
       }
 
-  pub reads_few : (objects : List ObjectParts) (rest : List ℕ) (rounds : ℕ) → IsReading bytes objects rest rounds →
+  -- an object takes some bytes
+  pub shrinks : (objects after : List ObjectParts) (rest left : List ℕ) → IsReading bytes objects rest →
+      IsReadSo objects rest after left → length left < length rest
+  shrinks objects after rest left so_far read =
+      let took = object_field.takes rest read.object left so_far.fits read.read in
+      let sizes = ap length took.0.parts ∙ length-append (object_bytes read.object) left in
+      omega (arith, sizes, some_bytes read.object)
+
+  pub reads_few : (objects : List ObjectParts) (rest : List ℕ) → IsReading bytes objects rest →
       length objects ≤ length bytes
-  reads_few objects rest rounds so_far = are_few bytes rest objects so_far.are
+  reads_few objects rest so_far = are_few bytes rest objects so_far.are
 
-  -- as many rounds as bytes are too many
-  pub ends_before : (objects : List ObjectParts) (rest : List ℕ) (rounds : ℕ) → IsReading bytes objects rest rounds →
-      length bytes ≤ rounds → ⊥
-  ends_before objects rest rounds so_far past =
-      omega (arith, past, so_far.count, reads_few objects rest rounds so_far)
+  pub has_read : (objects : List ObjectParts) (rest : List ℕ) → IsReading bytes objects rest →
+      length bytes < 2 ^ 32 → length rest ≡ 0 → AreBytesOf objects bytes
+  has_read objects rest so_far short none =
+      are_bytes bytes rest objects short so_far.some so_far.each so_far.are (nothing rest none)
+    where
+      nothing : (rest : List ℕ) → length rest ≡ 0 → rest ≡ []
+      nothing [] none = refl
+      nothing (byte ∷ rest) none = absurd (omega (arith, none))
 
-  pub has_read : (objects : List ObjectParts) (rest : List ℕ) (rounds : ℕ) → IsReading bytes objects rest rounds →
-      length bytes < 2 ^ 32 → rest ≡ [] → AreBytesOf objects bytes
-  has_read objects rest rounds so_far short none =
-      are_bytes bytes rest objects short (omega (arith, so_far.count)) so_far.each so_far.are none
-
-  pub is_bad : (objects : List ObjectParts) (rest : List ℕ) (rounds index : ℕ) (cause : BadObject) →
-      IsReading bytes objects rest rounds → 0 < length rest → index ≡ length objects → object_at rest ≡ Err cause →
+  pub is_bad : (objects : List ObjectParts) (rest : List ℕ) (index : ℕ) (cause : BadObject) →
+      IsReading bytes objects rest → 0 < length rest → index ≡ length objects → object_at rest ≡ Err cause →
       IsFirstBad bytes index cause
-  is_bad objects rest rounds index cause so_far left number bad =
+  is_bad objects rest index cause so_far left number bad =
       subst (λ n. IsFirstBad bytes n cause) (sym number)
       (first_bad bytes rest objects cause so_far.each so_far.are (inr left) bad)
 

@@ -22,8 +22,10 @@ pub fn object(alloc: Global, program: &Program, comp: CompId) -> Result<Object, 
     ensures fault { IfErr result (IsFault program.now) }
 {
     let image = compile(alloc, program)?;
-    let object = object_in(alloc, &image, comp)?;
-    Ok(object)
+    match object_in(alloc, &image, comp) {
+        Ok(object) => Ok(object),
+        Err(_) => Err(CompileFault::OutOfMemory),
+    }
 }
 
 // The object of a compartment of an image.

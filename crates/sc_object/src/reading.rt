@@ -42,10 +42,7 @@ pub fn read_objects(alloc: Global, bytes: &[u8]) -> Result<Objects, ObjectsFault
     let mut rest = bytes;
     let mut objects = Items::new(alloc);
     push_object(alloc, &mut objects, &mut rest)?;
-    for _ in 0..bytes.len() {
-        if rest.is_empty() {
-            break;
-        }
+    while !rest.is_empty() {
         push_object(alloc, &mut objects, &mut rest)?;
     }
     Ok(Objects::from_items(objects))

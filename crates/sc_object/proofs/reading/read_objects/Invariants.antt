@@ -1,6 +1,9 @@
+use Rattle.sc_object.proofs.Common.{length}
 use Rattle.sc_object.proofs.Cuts.{IsReading}
 use Rattle.sc_object.proofs.reading.read_objects.Given as goal
 
--- one object more than rounds is read
-abbrev pub invariant-loop : goal.invariant-loop
-invariant-loop l = IsReading l.bytes l.objects l.rest l.counter
+abbrev pub invariant-loop-rest : goal.invariant-loop-rest
+invariant-loop-rest l = IsReading l.bytes l.objects l.rest
+
+abbrev pub decreases-loop-rest : goal.decreases-loop-rest
+decreases-loop-rest l = length l.rest
