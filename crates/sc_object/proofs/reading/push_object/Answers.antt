@@ -4,5 +4,5 @@ pub returns-in_ok-push-in-Ok-clause-read : goal.returns-in_ok-push-in-Ok-clause-
 returns-in_ok-push-in-Ok-clause-read c = record {
   object = c.in-Ok.parts;
   read = c.in-Ok.ensures;
-  added = c.in_ok-push.ensures.ok;
+  added = c.in_ok-push-in-Ok.ensures.ok;
 }

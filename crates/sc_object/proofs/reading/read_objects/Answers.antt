@@ -9,8 +9,11 @@ loop-rest-init c =
 
 pub push_object-requires-in-loop-rest : goal.push_object-requires-in-loop-rest
 push_object-requires-in-loop-rest c =
-    omega (arith, c.requires,
-    reads_few c.args.bytes.now c.loop-rest.objects c.loop-rest.rest.now c.loop-rest.invariant)
+    omega (
+      arith,
+      c.requires,
+      reads_few c.args.bytes.now c.loop-rest.objects c.loop-rest.rest.now c.loop-rest.invariant,
+    )
 
 pub loop-rest-smaller : goal.loop-rest-smaller
 loop-rest-smaller c =
