@@ -1,5 +1,5 @@
 -- Bytes are cut into objects in one way.
-use Rattle.sc_object.proofs.Common.{AllByRecursion, All-from_recursion, AreBytesOf, BadObject, BytesNameOneList, Err}
+use Rattle.sc_object.proofs.Common.{AllByRecursion, All-from_recursion, AreBytesOf, AreObjects, BadObject, BytesNameOneList, Err}
 use Rattle.sc_object.proofs.Common.{IsFirstBad, IsObject, IsReadSo, List, Mark, ObjectIsReadAgain, ObjectParts}
 use Rattle.sc_object.proofs.Common.{ObjectsOrBad, Ok, OneFirstBad, Read, [], ap, ap₂, append-nil, append_assoc, arith}
 use Rattle.sc_object.proofs.Common.{codes, flat_map, flat_map-append, flat_map-cons, inl, inr, length, length-append}
@@ -237,6 +237,17 @@ bytes_with_last objects last rest =
     sym (append_assoc (all_bytes_of objects) (object_bytes last) rest) ∙
     ap (λ text. text ++ rest) (ap (λ text. all_bytes_of objects ++ text) (sym (append-nil (object_bytes last))) ∙
     sym (flat_map-append object_bytes objects (last ∷ [])))
+
+pub with_one_more : (objects after : List ObjectParts) (last : ObjectParts) → AreObjects objects → IsObject last →
+    length objects + 1 < 2 ^ 32 → after ≡ objects ++ last ∷ [] → AreObjects after
+with_one_more objects after last are is few added =
+    let count = ap length added ∙ length-append objects (last ∷ []) in
+    record {
+      some = omega (arith, count);
+      few = omega (arith, count, few);
+      each = All-from_recursion IsObject _ (subst AllObjects (sym added)
+          (with_last objects last (recursion_from_All IsObject _ are.each) is));
+    }
 
 module _ (bytes : List ℕ) where
   pub reads_more : (objects after : List ObjectParts) (rest left : List ℕ) → IsReading bytes objects rest →
