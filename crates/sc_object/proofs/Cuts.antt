@@ -1,10 +1,11 @@
 -- Bytes are cut into objects in one way.
-use Rattle.sc_object.proofs.Common.{AllByRecursion, All-from_recursion, AreBytesOf, AreObjects, BadObject, BytesNameOneList, Err}
+use Rattle.sc_object.proofs.Common.{AllByRecursion, All-from_recursion, AreBytesOf, BadObject, BytesNameOneList, Err}
 use Rattle.sc_object.proofs.Common.{IsFirstBad, IsObject, IsReadSo, List, Mark, ObjectIsReadAgain, ObjectParts}
 use Rattle.sc_object.proofs.Common.{ObjectsOrBad, Ok, OneFirstBad, Read, [], ap, ap₂, append-nil, append_assoc, arith}
 use Rattle.sc_object.proofs.Common.{codes, flat_map, flat_map-append, flat_map-cons, inl, inr, length, length-append}
 use Rattle.sc_object.proofs.Common.{little_bytes, object_at, object_bytes, object_parts_bytes, recursion_from_All, refl}
 use Rattle.sc_object.proofs.Common.{subst, suc, sym, zero, ℕ, ◌++◌, ◌+◌, ◌<◌, ◌^◌, ◌∙◌, ◌∷◌, ◌≡◌, ◌≤◌, ◌⊎◌}
+use Rattle.sc_object.proofs.Common.{AreObjects}
 use Rattle.sc_fields.proofs.Fields.{IsBytes, bytes_fit}
 use Rattle.sc_object.proofs.Fields.{object_field}
 
