@@ -12,7 +12,7 @@ use Rattle.sc_compile.specs.Prelude.{HasParts, PartsAreSeparate, image_of, unles
 use Rattle.sc_compile.proofs.Codes.{codes_are}
 
 -- the codes of a section that may be there
-abbrev own_codes : Interfaces → (comp : ℕ) → Option TypedSection → List CodeTree
+abbrev pub own_codes : Interfaces → (comp : ℕ) → Option TypedSection → List CodeTree
 own_codes interfaces comp found =
     map function_code (functions_or_none (option_map (lowered_section interfaces comp) found))
 
@@ -22,7 +22,7 @@ own_part interfaces comp found =
     (own_codes interfaces comp found)) (comp_at interfaces comp)
 
 module _ (program : ProgramTree) (comp : ℕ) where
-  codes_so : codes_at program (all_codes (lowered_program program)) comp ≡
+  pub codes_so : codes_at program (all_codes (lowered_program program)) comp ≡
       own_codes program.interfaces comp (slice_get program.sections comp)
   codes_so =
       codes_are program comp ∙
@@ -42,7 +42,7 @@ has_parts program comp interface section at there =
     (own_codes program.interfaces comp (Some section)))) at
 
 -- an image is built
-image_is : (program : ProgramTree) (image : ImageParts) → image_of program ≡ Ok image → built_image program ≡ image
+pub image_is : (program : ProgramTree) (image : ImageParts) → image_of program ≡ Ok image → built_image program ≡ image
 image_is program image is = by (too_large program) is where
   by : (found : Option CompileFault) → unless_large found (built_image program) ≡ Ok image →
       built_image program ≡ image
