@@ -50,7 +50,7 @@ steady arith blocks (tacop.PointerCompare o) c d =
     ap (λ r. if is_comparison o && (is_pointer (constant_value c) && is_pointer (constant_value d)) then r else
     Err BadType) (between_steady blocks o 1 c d)
 
-from_constant : (r : Result Value Cause) (k : Constant) → constant_from r ≡ Some k → r ≡ Ok (constant_value k)
+pub from_constant : (r : Result Value Cause) (k : Constant) → constant_from r ≡ Some k → r ≡ Ok (constant_value k)
 from_constant (Ok (Word w)) k e =
     let same : ◌≡◌ {A = Option Constant} (Some (constant.Word w)) (Some k) = e in
     let one : constant.Word w ≡ k = cc same in ap (λ c. Ok (constant_value c)) one
@@ -68,7 +68,7 @@ kept r r' v (blamed cause soft is) e = let no : ◌≡◌ {A = Result Value Caus
 both_keep : ArithKeeps IsArithmetic c_arith wrapping
 both_keep = record { binary = binary_fits; negated = negated_fits }
 
-wrapped : (o : TacOp) (v w z : Value) → operated c_arith [] o v w ≡ Ok z → operated wrapping [] o v w ≡ Ok z
+pub wrapped : (o : TacOp) (v w z : Value) → operated c_arith [] o v w ≡ Ok z → operated wrapping [] o v w ≡ Ok z
 wrapped (tacop.Unary o scalar) v w z e =
     kept _ _ z (one_keeps IsArithmetic c_arith wrapping both_keep (is_unsigned scalar) o v) e
 wrapped (tacop.Binary o scalar) v w z e =

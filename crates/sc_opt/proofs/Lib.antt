@@ -20,3 +20,8 @@ pub mod Rules
 pub mod Instances
 pub mod Bounds
 pub mod Inside
+pub mod Found
+pub mod Strays
+pub mod WordBounds
+pub mod Words
+pub mod Counting
