@@ -18,7 +18,8 @@ use Rattle.sc_tac.specs.declared.function.TacFnTree.{TacFnTree}
 use Rattle.sc_tac.specs.declared.stmt.TacStmt.{TacStmt, TacStmt-F, fold-TacStmt, fold-roll-TacStmt, map-TacStmt}
 use Rattle.sc_tac.specs.declared.stmt.TacStmt.{roll-TacStmt}
 use Rattle.sc_tac.specs.declared.stmt.TacStmt.TheOpen as tac
-use Rattle.sc_opt.proofs.Giving.{Lasting, Promised, lasting_if, lasting_then}
+use Rattle.sc_core_laws.proofs.Promises.{reached_if, reached_then}
+use Rattle.sc_core_laws.specs.Prelude.{IfReached, Promised}
 
 module _ (result : Bool) where
   abbrev Good : Exit → Type 0
@@ -28,7 +29,7 @@ module _ (result : Bool) where
   Good (Return v) = Promised result v
 
   abbrev Ends : Piece (Left Temps) → Type 0
-  Ends o = Lasting (λ l. Good l.exit) o
+  Ends o = IfReached (λ l. Good l.exit) o
 
   ends_in_order : (o : Piece (Left Temps)) (f : Codes) → Ends o → ((a : Temps) (s : State) → Ends (f a s)) →
       Ends (follow in_order o f)
@@ -54,7 +55,7 @@ module _ (result : Bool) where
       (b : (a : Temps) (s : State) → Ends (body a s)) (x : (a : Temps) (s : State) → Ends (next a s)) where
     ends_rounds : (n : ℕ) (a : Temps) (s : State) → Ends (rounds n head body next a s)
     ends_rounds zero a s = tt
-    ends_rounds (suc n) a s = ends_in_loop (head a s) _ (h a s) (λ a s. lasting_then (λ l. Good l.exit) (turn s) _ (λ u s.
+    ends_rounds (suc n) a s = ends_in_loop (head a s) _ (h a s) (λ a s. reached_then (λ l. Good l.exit) (turn s) _ (λ u s.
         ends_in_loop (body a s) _ (b a s) (λ a s. ends_in_loop (next a s) _ (x a s) (ends_rounds n))))
 
   module _ (arith : Arith) (here : Here) (C : Calls) where
@@ -75,7 +76,7 @@ module _ (result : Bool) where
 
     next_after : {V : Type 0} (o : Piece V) (k : V → State → Piece (Left Temps)) →
         ((v : V) (s : State) → Ends (k v s)) → Ends (and_then o k)
-    next_after o k h = lasting_then G o k h
+    next_after o k h = reached_then G o k h
 
     returned : (b : Bool) → beq false b ≡ true → Promised b None
     returned true h e = let no : false ≡ true = h in absurd (cc no)
@@ -98,7 +99,7 @@ module _ (result : Bool) where
         next_after (computed here 0 (store (s.memory here.comp) q w) s) _ (λ z s. tt)))
     layer_fine (tac.If cond x y) i h a s = next_after (read here cond a s)
         (λ v s. choose v (all_do (map (stmt_does arith here C) x) a s) (all_do (map (stmt_does arith here C) y) a s))
-        (λ v s. lasting_if G (is_true v) (all_do (map (stmt_does arith here C) x) a s)
+        (λ v s. reached_if G (is_true v) (all_do (map (stmt_does arith here C) x) a s)
         (all_do (map (stmt_does arith here C) y) a s)
         (row_fine x i.0 (and_first (all_true (map test x)) _ (and_rest true _ h)) a s)
         (row_fine y i.1 (and_first (all_true (map test y)) true
@@ -138,25 +139,25 @@ module _ (result : Bool) where
     code_fine stmts = row_fine stmts (everywhere_in Fine stmt_fine stmts)
 
   brace : (is_main : Bool) (b : Bool) → b ≡ result → (here : Here) (s : State) →
-      Lasting (Promised b) (at_brace b is_main 0 here s)
+      IfReached (Promised b) (at_brace b is_main 0 here s)
   brace true true is here s = λ e. refl
   brace false true is here s = tt
   brace is_main false is here s = λ e. let no : false ≡ true = e in absurd (cc no)
 
   closed_fine : (is_main : Bool) (here : Here) (exit : Exit) → Good exit → (s : State) →
-      Lasting (Promised result) (closed exit result is_main 0 here s)
+      IfReached (Promised result) (closed exit result is_main 0 here s)
   closed_fine is_main here Next h s = brace is_main result refl here s
   closed_fine is_main here Break h s = brace is_main result refl here s
   closed_fine is_main here Continue h s = brace is_main result refl here s
   closed_fine is_main here (Return v) h s = h
 
   closing_fine : (is_main : Bool) (here : Here) (o : Piece (Left Temps)) → Ends o →
-      Lasting (Promised result) (and_then o (λ l s. closed l.exit result is_main 0 here s))
+      IfReached (Promised result) (and_then o (λ l s. closed l.exit result is_main 0 here s))
   closing_fine is_main here (Reached l s) h = closed_fine is_main here l.exit h s
   closing_fine is_main here (Stopped end s) h = tt
 
 -- a function that promises a value gives one
 pub function_gives : (arith : Arith) (f : TacFnTree) → everywhere (returns_result f.result) f.body ≡ true →
-    (C : Calls) (here : Here) (s : State) → Lasting (Promised f.result) ((code_function arith f).does C here s)
+    (C : Calls) (here : Here) (s : State) → IfReached (Promised f.result) ((code_function arith f).does C here s)
 function_gives arith f all C here s = closing_fine f.result _ here (code_does arith here C f.body no_temps s)
     (code_fine f.result arith here C f.body all no_temps s)

@@ -14,6 +14,7 @@ use Rattle.sc_tac.specs.Prelude.{reading, row_first}
 use Rattle.sc_tac.specs.declared.function.TacFnTree.{TacFnTree}
 use Rattle.sc_tac.specs.declared.stmt.TacStmt.{TacStmt}
 use Rattle.sc_opt.specs.Pass.{is_read, always_word, one_pass, copy_source, table_of, takes_promised}
+use Rattle.sc_opt.specs.Optimised.{changed_function}
 use Rattle.sc_opt.proofs.Kept.{code_kept}
 use Rattle.sc_opt.proofs.Agreement.{begun}
 use Rattle.sc_opt.proofs.Related.{Follows, Related}
@@ -21,9 +22,6 @@ use Rattle.sc_opt.proofs.Sources.{all_sourced}
 use Rattle.sc_opt.proofs.Uses.{all_uses}
 use Rattle.sc_opt.proofs.Values.{Fits}
 use Rattle.sc_opt.specs.declared.table.Assigned.{Assigned}
-
-abbrev pub passed_function : TacFnTree → TacFnTree
-passed_function f = record f { body = one_pass f.body }
 
 -- what a call sees of two pieces that follow
 module _ (table : ℕ → Assigned) (source : ℕ → ℕ) (used holds_word : ℕ → Bool) (result is_main : Bool) (here : Here) where
@@ -46,7 +44,7 @@ module _ (arith : Arith) (fits : Fits arith) (f : TacFnTree) (gives : CallTarget
   pub function_kept : (here : Here) (C D : Calls) → CallsAgree C D →
       ((target : CallTarget) → gives target ≡ true → (args : List Value) (s t : State) (v : Option Value) →
       C here.comp target args s ≡ Reached v t → is_some v ≡ true) → (s : State) →
-      PiecesAgree ((code_function arith f).does C here s) ((code_function arith (passed_function f)).does D here s)
+      PiecesAgree ((code_function arith f).does C here s) ((code_function arith (changed_function one_pass f)).does D here s)
   function_kept here C D agree giving s =
       let table = table_of f.body in
       let source = copy_source table in

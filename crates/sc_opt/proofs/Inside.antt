@@ -1,5 +1,5 @@
 -- What is read elsewhere is read at a temporary of the function.
-use Rattle.std.proofs.Common.{Bool, List, ap, false, inl, inr, ltb-false, nat_lt, sym, true, ℕ, ◌∙◌, ◌≡◌, ◌≤◌, ◌⊎◌}
+use Rattle.std.proofs.Common.{Bool, List, ap, false, inl, inr, ltb-false, nat_lt, refl, sym, true, ℕ, ◌∙◌, ◌≡◌, ◌≤◌, ◌⊎◌}
 use Rattle.sc_tac.specs.Prelude.{everywhere, names_own_temps}
 use Rattle.sc_tac.specs.declared.stmt.TacStmt.{TacStmt}
 use Rattle.sc_opt.specs.Pass.{copy_source, is_once, table_of}

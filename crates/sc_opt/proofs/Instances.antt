@@ -281,7 +281,7 @@ module _ (table : ℕ → Assigned) (source : ℕ → ℕ) (used holds_word : �
 
     unless : (d : ℕ) (o : TacOp) (left : ℕ) (right : Option ℕ) →
         folded table source used holds_word o left right ≡ None →
-        reads_used table source used holds_word {R = Bool} (tac.Op d o left right) ≡ true →
+        reads_used table source used holds_word (tac.Op d o left right) ≡ true →
         all_used table source used holds_word (left ∷ one_or_none right) ≡ true
     unless d o left right none h =
         sym (ap (λ f. unless_folded table source used holds_word f (left ∷ one_or_none right)) none) ∙ h

@@ -13,114 +13,23 @@ use Rattle.sc_tac.specs.declared.stmt.TacStmt.TheOpen as tac
 use Rattle.sc_opt.specs.Pass.{all_joined, copies_one, assigned, assigned_in}
 use Rattle.sc_opt.specs.Pass.{assigned_step, is_kept, is_once, joined, source_by, copy_source, copy_sources}
 use Rattle.sc_opt.proofs.Facts.{not_same}
+use Rattle.sc_opt.proofs.Found.{Found, found_in}
 use Rattle.sc_opt.proofs.Agreement.{AreSources, Moved}
 use Rattle.sc_opt.specs.declared.table.Assigned.{Assigned}
 use Rattle.sc_opt.specs.declared.table.Assigned.TheVariants.{ByConstant, ByCopy, Nowhere, Otherwise, Several}
 
--- COPIES THAT ARE LEFT
-copy_joined : (x y : Assigned) (u : ℕ) → joined x y ≡ ByCopy u → (x ≡ ByCopy u) ⊎ (y ≡ ByCopy u)
-copy_joined Nowhere y u h = inr h
-copy_joined (ByConstant c) Nowhere u h = inl h
-copy_joined (ByCopy v) Nowhere u h = inl h
-copy_joined Otherwise Nowhere u h = inl h
-copy_joined x y u h = absurd (cc h)
+not_true : (b : Bool) → not b ≡ true → b ≡ false
+not_true true h = let no : false ≡ true = h in absurd (cc no)
+not_true false h = refl
 
-module _ (table : ℕ → Assigned) (source : ℕ → ℕ) (used holds_word : ℕ → Bool) (t u : ℕ) where
-  abbrev left_test : TacStmt → Bool
-  left_test = fold-TacStmt Bool (with_parts (is_kept table source used holds_word))
-
-  abbrev Apart : TacStmt → Type 0
-  Apart stmt = left_test stmt ≡ true → assigned t stmt ≡ ByCopy u → (source t == source u) ≡ false
-
-  row_apart : (stmts : List TacStmt) → Each Apart stmts → all_true (map left_test stmts) ≡ true →
-      assigned_in t stmts ≡ ByCopy u → (source t == source u) ≡ false
-  row_apart [] each all h = absurd (cc h)
-  row_apart (s ∷ rest) each all h = by (copy_joined (assigned t s) (assigned_in t rest) u h)
-      (row_apart rest each.1 (and_rest (left_test s) _ all)) where
-    by : ((assigned t s ≡ ByCopy u) ⊎ (assigned_in t rest ≡ ByCopy u)) →
-        (assigned_in t rest ≡ ByCopy u → (source t == source u) ≡ false) → (source t == source u) ≡ false
-    by (inl here) later = each.0 (and_first (left_test s) _ all) here
-    by (inr there) later = later there
-
-  otherwise_nowhere : (b : Bool) → (if b then Otherwise else Nowhere) ≡ ByCopy u → (source t == source u) ≡ false
-  otherwise_nowhere true h = absurd (cc h)
-  otherwise_nowhere false h = absurd (cc h)
-
-  not_true : (b : Bool) → not b ≡ true → b ≡ false
-  not_true true h = let no : false ≡ true = h in absurd (cc no)
-  not_true false h = refl
-
-  copy_here : (d from : ℕ) → not (source d == source from) ≡ true → (b : Bool) → (d == t) ≡ b →
-      (if b then ByCopy from else Nowhere) ≡ ByCopy u → (source t == source u) ≡ false
-  copy_here d from kept false is h = absurd (cc h)
-  copy_here d from kept true is h =
-      let two : ByCopy from ≡ ByCopy u = h in
-      let one : from ≡ u = cc two in
-      subst (λ v. (source t == source v) ≡ false) one (subst (λ e. (source e == source from) ≡ false) (eqb-true d t is)
-      (not_true (source d == source from) kept))
-
-  const_here : (b : Bool) (c : Assigned) → (c ≡ ByCopy u → ⊥) → (if b then c else Nowhere) ≡ ByCopy u →
-      (source t == source u) ≡ false
-  const_here true c other h = absurd (other h)
-  const_here false c other h = absurd (cc h)
-
-  layer_apart : (k : TacStmt-F TacStmt) → Inside Apart k →
-      with_parts (is_kept table source used holds_word) (map-TacStmt _ _ left_test k) ≡ true →
-      assigned_step t (map-TacStmt _ _ (assigned t) k) ≡ ByCopy u → (source t == source u) ≡ false
-  layer_apart (tac.Const d value) i all h = const_here (d == t) (ByConstant value) (λ e. absurd (cc e)) h
-  layer_apart (tac.Copy d from) i all h = copy_here d from (and_first (not (source d == source from)) _
-      (and_first (not (source d == source from) && used d) true all)) (d == t) refl h
-  layer_apart (tac.Op d o left right) i all h = otherwise_nowhere (d == t || false) h
-  layer_apart (tac.ObjectPlace d object) i all h = otherwise_nowhere (d == t || false) h
-  layer_apart (tac.GlobalPlace d global) i all h = otherwise_nowhere (d == t || false) h
-  layer_apart (tac.Load d place pointer) i all h = otherwise_nowhere (d == t || false) h
-  layer_apart (tac.Store place value) i all h = absurd (cc h)
-  layer_apart (tac.If cond a b) i all h =
-      let inside = and_rest true (all_true (map left_test a) && (all_true (map left_test b) && true)) all in
-      by (copy_joined (assigned_in t a) (assigned_in t b) u h) inside where
-    by : ((assigned_in t a ≡ ByCopy u) ⊎ (assigned_in t b ≡ ByCopy u)) →
-        (all_true (map left_test a) && (all_true (map left_test b) && true)) ≡ true → (source t == source u) ≡ false
-    by (inl x) inside = row_apart a i.0 (and_first (all_true (map left_test a)) _ inside) x
-    by (inr x) inside = row_apart b i.1 (and_first (all_true (map left_test b)) true
-        (and_rest (all_true (map left_test a)) _ inside)) x
-  layer_apart (tac.Loop a b c) i all h =
-      let inside = and_rest true (all_true (map left_test a) && (all_true (map left_test b)
-      && (all_true (map left_test c) && true))) all in
-      by (copy_joined (assigned_in t a) (joined (assigned_in t b) (assigned_in t c)) u h) inside where
-    more : ((assigned_in t b ≡ ByCopy u) ⊎ (assigned_in t c ≡ ByCopy u)) →
-        (all_true (map left_test b) && (all_true (map left_test c) && true)) ≡ true → (source t == source u) ≡ false
-    more (inl x) inside = row_apart b i.1 (and_first (all_true (map left_test b)) _ inside) x
-    more (inr x) inside = row_apart c i.2 (and_first (all_true (map left_test c)) true
-        (and_rest (all_true (map left_test b)) _ inside)) x
-
-    by : ((assigned_in t a ≡ ByCopy u) ⊎ (joined (assigned_in t b) (assigned_in t c) ≡ ByCopy u)) →
-        (all_true (map left_test a) && (all_true (map left_test b) && (all_true (map left_test c) && true))) ≡ true →
-        (source t == source u) ≡ false
-    by (inl x) inside = row_apart a i.0 (and_first (all_true (map left_test a)) _ inside) x
-    by (inr x) inside = more (copy_joined (assigned_in t b) (assigned_in t c) u x)
-        (and_rest (all_true (map left_test a)) _ inside)
-  layer_apart tac.Break i all h = absurd (cc h)
-  layer_apart tac.Continue i all h = absurd (cc h)
-  layer_apart (tac.CallOwn None function args) i all h = absurd (cc h)
-  layer_apart (tac.CallOwn (Some d) function args) i all h = otherwise_nowhere (d == t || false) h
-  layer_apart (tac.CallCross None comp index args) i all h = absurd (cc h)
-  layer_apart (tac.CallCross (Some d) comp index args) i all h = otherwise_nowhere (d == t || false) h
-  layer_apart (tac.Input None) i all h = absurd (cc h)
-  layer_apart (tac.Input (Some d)) i all h = otherwise_nowhere (d == t || false) h
-  layer_apart (tac.Output value) i all h = absurd (cc h)
-  layer_apart (tac.Alloc d count words) i all h = otherwise_nowhere (d == t || false) h
-  layer_apart (tac.Free pointer) i all h = absurd (cc h)
-  layer_apart (tac.Return value) i all h = absurd (cc h)
-
-  stmt_apart : (stmt : TacStmt) → Apart stmt
-  stmt_apart = stmt_induction Apart (λ k i all h. layer_apart k i
-      (sym (fold-roll-TacStmt Bool (with_parts (is_kept table source used holds_word)) k) ∙ all)
-      (sym (fold-roll-TacStmt Assigned (assigned_step t) k) ∙ h))
-
-  -- a copy that is left isn't one of two with the same source
-  pub left_apart : (body : List TacStmt) → everywhere (is_kept table source used holds_word) body ≡ true →
-      assigned_in t body ≡ ByCopy u → (source t == source u) ≡ false
-  left_apart body all h = row_apart body (everywhere_in Apart stmt_apart body) all h
+-- a copy that is left isn't one of two with the same source
+left_apart : (table : ℕ → Assigned) (source : ℕ → ℕ) (used holds_word : ℕ → Bool) (t u : ℕ) (body : List TacStmt) →
+    everywhere (is_kept table source used holds_word) body ≡ true → assigned_in t body ≡ ByCopy u →
+    (source t == source u) ≡ false
+left_apart table source used holds_word t u body all is =
+    let test = is_kept table source used holds_word in
+    not_true (source t == source u) (and_first (not (source t == source u)) _
+    (subst (Found test t) is (found_in test t body all)))
 
 -- NO COPY BETWEEN TWO THAT ARE ASSIGNED IN ONE PLACE EACH
 module _ (table : ℕ → Assigned) (used holds_word : ℕ → Bool) (sourced : AreSources table (copy_source table) used holds_word) (body : List TacStmt)

@@ -6,7 +6,6 @@ pub mod Steps
 pub mod Kept
 pub mod Sources
 pub mod Fitting
-pub mod Giving
 pub mod Uses
 pub mod Function
 pub mod Exits
@@ -22,6 +21,9 @@ pub mod Bounds
 pub mod Inside
 pub mod Found
 pub mod Strays
-pub mod WordBounds
 pub mod Words
 pub mod Counting
+pub mod FunctionRules
+pub mod ProgramRules
+pub mod Passes
+pub mod Laws

@@ -11,7 +11,7 @@ use Rattle.sc_core.specs.declared.cause.Cause.{Cause}
 use Rattle.sc_core.specs.declared.cause.Cause.TheVariants.{BadType}
 use Rattle.sc_core.specs.declared.value.Value.{Value}
 use Rattle.sc_core.specs.declared.value.Value.TheVariants.{Word, Null, Ptr}
-use Rattle.sc_opt.proofs.WordBounds.{binary_below, negated_below, truth_below}
+use Rattle.sc_core_laws.proofs.WordBounds.{binary_below, negated_below, truth_below}
 use Rattle.sc_tac.specs.Prelude.{compared, constant_value, is_comparison, is_machine_word, is_pointer, is_unsigned}
 use Rattle.sc_tac.specs.Prelude.{operated}
 use Rattle.sc_tac.specs.declared.stmt.Constant.{Constant}

@@ -1,5 +1,4 @@
--- Two libraries whose functions agree where what they call agrees and gives results where it promises them: they run
--- the same, whoever performs.
+-- Denotations whose functions agree where what they call gives what it promises run the same, whoever performs.
 use Rattle.std.proofs.Common.{Bool, List, None, Option, Some, [], ap, arith, false, if◌then◌else◌, is_some, length, map}
 use Rattle.std.proofs.Common.{refl}
 use Rattle.std.proofs.Common.{subst, suc, sym, true, zero, ℕ, ◌∙◌, ◌∷◌, ◌≡◌}
@@ -25,81 +24,36 @@ use Rattle.sc_core.specs.declared.value.Value.{Value}
 use Rattle.sc_core.specs.declared.value.Value.TheVariants.{Word}
 use Rattle.sc_core_laws.specs.Prelude.{BodiesAgree, CallsAgree, Meets, PiecesAgree, RunsAgree, piece_without_line}
 use Rattle.sc_core_laws.proofs.Agreement.{itself, run_agree, then_agree}
+use Rattle.sc_core_laws.specs.Promises.{AgreeWithPromises, CallsGive, DenotationsAgreeWithPromises, HeadersAgree}
+use Rattle.sc_core_laws.specs.Promises.{IfReached, Promised, Promises, PromisingRunAlike, has_result, promised_by}
 
--- what a piece comes to has this property
-abbrev pub Lasting : {V : Type 0} → (V → Type 0) → Piece V → Type 0
-Lasting G (Reached v s) = G v
-Lasting G (Stopped end s) = Unit {0}
+pub reached_then : {V W : Type 0} (G : W → Type 0) (o : Piece V) (k : V → State → Piece W) →
+    ((v : V) (s : State) → IfReached G (k v s)) → IfReached G (and_then o k)
+reached_then G (Reached v s) k h = h v s
+reached_then G (Stopped end s) k h = tt
 
-pub lasting_then : {V W : Type 0} (G : W → Type 0) (o : Piece V) (k : V → State → Piece W) →
-    ((v : V) (s : State) → Lasting G (k v s)) → Lasting G (and_then o k)
-lasting_then G (Reached v s) k h = h v s
-lasting_then G (Stopped end s) k h = tt
+reached_behind : {V : Type 0} (G : V → Type 0) (o : Piece V) (k : V → State → State) → IfReached G o →
+    IfReached G (and_then o (λ v t. Reached v (k v t)))
+reached_behind G (Reached v s) k h = h
+reached_behind G (Stopped end s) k h = tt
 
-lasting_behind : {V : Type 0} (G : V → Type 0) (o : Piece V) (k : V → State → State) → Lasting G o →
-    Lasting G (and_then o (λ v t. Reached v (k v t)))
-lasting_behind G (Reached v s) k h = h
-lasting_behind G (Stopped end s) k h = tt
-
-pub lasting_if : {V : Type 0} (G : V → Type 0) (b : Bool) (o p : Piece V) → Lasting G o → Lasting G p →
-    Lasting G (if b then o else p)
-lasting_if G true o p h k = h
-lasting_if G false o p h k = k
-
--- a value, where one is promised
-abbrev pub Promised : Bool → Option Value → Type 0
-Promised b v = b ≡ true → is_some v ≡ true
-
--- functions that callers can't tell apart
-pub record ShellsAgree (f g : Function) : Type 0 where
-  pub cells : f.cells ≡ g.cells
-  pub frame_size : f.frame_size ≡ g.frame_size
-
--- which functions promise a value, by compartment and number
-abbrev pub Promises : Type 0
-Promises = ℕ → ℕ → Bool
-
-abbrev pub has_result : Option Proto → Bool
-has_result None = false
-has_result (Some proto) = is_some proto.result
+pub reached_if : {V : Type 0} (G : V → Type 0) (b : Bool) (o p : Piece V) → IfReached G o → IfReached G p →
+    IfReached G (if b then o else p)
+reached_if G true o p h k = h
+reached_if G false o p h k = k
 
 module _ (L M : Denotations) (promises : Promises) where
-  abbrev pub promised_by : ℕ → CallTarget → Bool
-  promised_by from (Own number) = promises from number
-  promised_by from (Cross to index) = has_result (export_at L.interfaces to index)
-  promised_by from Input = true
-  promised_by from Output = false
-
-  -- calls from a compartment give what is promised
-  abbrev pub CallsGive : ℕ → Calls → Type 0
-  CallsGive from C = (target : CallTarget) (args : List Value) (s : State) →
-      Lasting (Promised (promised_by from target)) (C from target args s)
-
-  -- two functions that agree where their calls do and give, and of which the first gives what it promises
-  pub record Follow (comp number : ℕ) (f g : Function) : Type 0 where
-    pub shells : ShellsAgree f g
-    pub does : (C D : Calls) → CallsAgree C D → CallsGive comp C → (first : ℕ) (s : State) →
-        PiecesAgree (f.does C (record { comp = comp; first = first }) s)
-        (g.does D (record { comp = comp; first = first }) s)
-    pub gives : (C : Calls) (first : ℕ) (s : State) →
-        Lasting (Promised (promises comp number)) (f.does C (record { comp = comp; first = first }) s)
-
-  pub record DenotationsFollow : Type 0 where
-    pub interfaces : L.interfaces ≡ M.interfaces
-    pub functions : (comp number : ℕ) → Meets (Follow comp number) (function L comp number) (function M comp number)
-    pub entered : (comp : ℕ) (entry : Entry) → L.entered comp entry ≡ M.entered comp entry
-
-  module _ (follow : DenotationsFollow) where
+  module _ (follow : DenotationsAgreeWithPromises L M promises) where
     abbrev Looks : Option Function → Option Function → Type 0
-    Looks f g = Meets ShellsAgree f g
+    Looks f g = Meets HeadersAgree f g
 
     looks : (comp number : ℕ) → Looks (function L comp number) (function M comp number)
     looks comp number = by (function L comp number) (function M comp number) (follow.functions comp number) where
-      by : (f g : Option Function) → Meets (Follow comp number) f g → Looks f g
+      by : (f g : Option Function) → Meets (AgreeWithPromises L M promises comp number) f g → Looks f g
       by None None h = tt
       by None (Some g) h = absurd h
       by (Some f) None h = absurd h
-      by (Some f) (Some g) h = h.shells
+      by (Some f) (Some g) h = h.headers
 
     module _ (body other : Body) (bodies : BodiesAgree body other) where
       runs_in : (comp number : ℕ) (args : List Value) (back back' : Option Value → State → Piece (Option Value)) →
@@ -165,30 +119,30 @@ module _ (L M : Denotations) (promises : Promises) where
     module _ (scripted : ℕ → Bool) where
       abbrev BodyGives : Body → Type 0
       BodyGives body = (comp number first : ℕ) (s : State) → scripted comp ≡ false →
-          Lasting (Promised (promises comp number)) (body number (record { comp = comp; first = first }) s)
+          IfReached (Promised (promises comp number)) (body number (record { comp = comp; first = first }) s)
 
-      called_gives : (body : Body) → BodyGives body → (from : ℕ) → scripted from ≡ false → CallsGive from (called L body)
+      called_gives : (body : Body) → BodyGives body → (from : ℕ) → scripted from ≡ false → CallsGive L M promises from (called L body)
       called_gives body h from plain (Own number) args s =
           let G : Option Value → Type 0 = Promised (promises from number) in
-          lasting_then G (turn s) (λ _ s. call_own L body from number args s) (λ _ s.
-          lasting_then G (found (function L from number) s) (λ f s. and_then
+          reached_then G (turn s) (λ _ s. call_own L body from number args s) (λ _ s.
+          reached_then G (found (function L from number) s) (λ f s. and_then
           (body number (record { comp = from; first = length (s.memory from) }) (begun from f args s))
           (λ v t. back_own v (done from f (length (s.memory from)) t))) (λ f s.
-          lasting_behind G (body number (record { comp = from; first = length (s.memory from) }) (begun from f args s))
+          reached_behind G (body number (record { comp = from; first = length (s.memory from) }) (begun from f args s))
           (λ v t. done from f (length (s.memory from)) t)
           (h from number (length (s.memory from)) (begun from f args s) plain)))
       called_gives body h from plain (Cross to index) args s =
           let G : Option Value → Type 0 = Promised (has_result (export_at L.interfaces to index)) in
-          lasting_then G (turn s) (λ _ s. call_cross L body from to index args s) (λ _ s.
-          lasting_then G (found (L.entered to (Export index)) s) _ (λ n s.
-          lasting_then G (found (function L to n) _) _ (λ g s.
-          lasting_then G (body n _ _) _ (λ v t. crosses (export_at L.interfaces to index) v))))
+          reached_then G (turn s) (λ _ s. call_cross L body from to index args s) (λ _ s.
+          reached_then G (found (L.entered to (Export index)) s) _ (λ n s.
+          reached_then G (found (function L to n) _) _ (λ g s.
+          reached_then G (body n _ _) _ (λ v t. crosses (export_at L.interfaces to index) v))))
       called_gives body h from plain Input args s = λ e. refl
       called_gives body h from plain Output args s = λ e. let no : false ≡ true = e in absurd (cc no)
 
-      calls_give : (body : Body) → BodyGives body → (from : ℕ) → scripted from ≡ false → CallsGive from (calls L body)
+      calls_give : (body : Body) → BodyGives body → (from : ℕ) → scripted from ≡ false → CallsGive L M promises from (calls L body)
       calls_give body h from plain target args s =
-          lasting_if (Promised (promised_by from target)) (may_call L from target args) (called L body from target args s)
+          reached_if (Promised (promised_by L M promises from target)) (may_call L from target args) (called L body from target args s)
           (Stopped (Blamed from BadType 0) s) (called_gives body h from plain target args s) tt
 
     module _ (roles : Roles) where
@@ -203,7 +157,7 @@ module _ (L M : Denotations) (promises : Promises) where
         gives : BodyGives roles.scripted body
 
       does_agree : (body other : Body) → Bodies body other → (comp number first : ℕ) (s : State) →
-          roles.scripted comp ≡ false → (f g : Option Function) → Meets (Follow comp number) f g →
+          roles.scripted comp ≡ false → (f g : Option Function) → Meets (AgreeWithPromises L M promises comp number) f g →
           PiecesAgree (and_then (found f s) (λ f s. f.does (calls L body) (record { comp = comp; first = first }) s))
           (and_then (found g s) (λ g s. g.does (calls M other) (record { comp = comp; first = first }) s))
       does_agree body other h comp number first s plain None None m = itself _
@@ -225,7 +179,7 @@ module _ (L M : Denotations) (promises : Promises) where
             (function M here.comp number) (follow.functions here.comp number)
 
       does_give : (C : Calls) (comp number first : ℕ) (s : State) (f g : Option Function) →
-          Meets (Follow comp number) f g → Lasting (Promised (promises comp number))
+          Meets (AgreeWithPromises L M promises comp number) f g → IfReached (Promised (promises comp number))
           (and_then (found f s) (λ f s. f.does C (record { comp = comp; first = first }) s))
       does_give C comp number first s None g m = tt
       does_give C comp number first s (Some f) None m = absurd m
@@ -234,7 +188,7 @@ module _ (L M : Denotations) (promises : Promises) where
       step_gives : (body other : Body) → Bodies body other → BodyGives roles.scripted (first_step body)
       step_gives body other h comp number first s plain =
           let here : Here = record { comp = comp; first = first } in
-          subst (λ b. Lasting (Promised (promises comp number)) (if b then
+          subst (λ b. IfReached (Promised (promises comp number)) (if b then
           performs L body (rows_left roles comp s.trace) number here s else run_step L body number here s)) (sym plain)
           (does_give (calls L body) comp number first s (function L comp number) (function M comp number)
           (follow.functions comp number))
@@ -263,11 +217,24 @@ module _ (L M : Denotations) (promises : Promises) where
           (then_agree _ _ _ _ (itself (found o s)) (λ number s. own_agree (within first_step (suc turns))
           (within other_step (suc turns)) (within_both (suc turns)).agree main number [] s))
 
-      pub follow_alike : (globals : Memory) (inputs : List ℕ) (turns : ℕ) →
+      pub promising_alike : (globals : Memory) (inputs : List ℕ) (turns : ℕ) →
           RunsAgree (run_by L first_step globals inputs turns) (run_by M other_step globals inputs turns)
-      follow_alike globals inputs turns = subst (λ i. RunsAgree (run_by L first_step globals inputs turns) (run_to
+      promising_alike globals inputs turns = subst (λ i. RunsAgree (run_by L first_step globals inputs turns) (run_to
           i.main (and_then (found (M.entered i.main Main) (first_state globals inputs turns))
           (λ number s. call_own M (within other_step (suc turns)) i.main number [] s)))) follow.interfaces
           (run_agree L.interfaces.main _ _ (start_found (L.entered L.interfaces.main Main)
           (M.entered L.interfaces.main Main) L.interfaces.main turns (first_state globals inputs turns)
           (follow.entered L.interfaces.main Main)))
+
+-- where nobody performs
+nobody_performs : Roles
+nobody_performs = record { scripted = λ comp. false; rows = λ comp. [] }
+
+pub promising_run_alike : PromisingRunAlike
+promising_run_alike = record {
+  meaning = λ L M promises agree globals inputs turns.
+      promising_alike L M promises agree nobody_performs globals inputs turns;
+  scripted = λ L M promises agree roles globals inputs turns.
+      promising_alike L M promises agree roles globals inputs turns;
+  bodies = λ L M promises agree roles open_calls. bodies_alike L M promises agree roles open_calls;
+}
