@@ -227,7 +227,7 @@ module _ (L M : Denotations) (promises : Promises) where
           (follow.entered L.interfaces.main Main)))
 
 -- where nobody performs
-nobody_performs : Roles
+abbrev nobody_performs : Roles
 nobody_performs = record { scripted = λ comp. false; rows = λ comp. [] }
 
 pub promising_run_alike : PromisingRunAlike

@@ -7,8 +7,8 @@ use Rattle.sc_tac.specs.Prelude.{TempSet, Temps, constant_value, no_temps, with_
 use Rattle.sc_tac.specs.declared.stmt.Constant.{Constant}
 use Rattle.sc_opt.specs.Pass.{is_once}
 use Rattle.sc_opt.proofs.Facts.{decide, not_same, with_here, with_other, with_same}
-use Rattle.sc_opt.specs.declared.table.Assigned.{Assigned}
-use Rattle.sc_opt.specs.declared.table.Assigned.TheVariants.{ByConstant, ByCopy}
+use Rattle.sc_opt.specs.declared.facts.Assigned.{Assigned}
+use Rattle.sc_opt.specs.declared.facts.Assigned.TheVariants.{ByConstant, ByCopy}
 
 module _ (table : ℕ → Assigned) (source : ℕ → ℕ) (used holds_word : ℕ → Bool) where
   -- a temporary that is read where its copy comes from

@@ -20,8 +20,8 @@ use Rattle.sc_opt.specs.Pass.{all_joined, folded, assigned, assigned_step, keep_
 use Rattle.sc_opt.specs.Pass.{operator_code, pass, pass_step, present}
 use Rattle.sc_opt.proofs.Facts.{AtMost, below_first, below_rest, decide, not_same, other_way}
 use Rattle.sc_opt.proofs.Agreement.{AreSources, Moved}
-use Rattle.sc_opt.specs.declared.table.Assigned.{Assigned}
-use Rattle.sc_opt.specs.declared.table.Assigned.TheVariants.{ByConstant, ByCopy, Nowhere, Otherwise, Several}
+use Rattle.sc_opt.specs.declared.facts.Assigned.{Assigned}
+use Rattle.sc_opt.specs.declared.facts.Assigned.TheVariants.{ByConstant, ByCopy, Nowhere, Otherwise, Several}
 
 module _ (table : ℕ → Assigned) (source : ℕ → ℕ) (used holds_word : ℕ → Bool) (are_sources : AreSources table source used holds_word) (x : ℕ)
     (is_used : used x ≡ true) where
@@ -402,7 +402,7 @@ module _ (table : ℕ → Assigned) (source : ℕ → ℕ) (used holds_word : �
         (λ e. e)
 
   op_lifts : (d : ℕ) (o : TacOp) (left : ℕ) (right : Option ℕ) → LiftedAt (tac.Op d o left right)
-  op_lifts d o left right below = by (folded table source used holds_word o left right) where
+  op_lifts d o left right below = by (folded table o left right) where
     home : source d ≡ d
     home = otherwise_home d (below d)
 
@@ -417,7 +417,7 @@ module _ (table : ℕ → Assigned) (source : ℕ → ℕ) (used holds_word : �
 
     by : (f : Option Constant) → Lifts (assigned_at (tac.Op d o left right))
         (plain_at (left ∷ one_or_none right) (Some d)) (λ t ahead. true)
-        (operator_code table source used holds_word d o left right f)
+        (operator_code source used holds_word d o left right f)
     by (Some c) = kept_lifts (assigned_at (tac.Op d o left right)) (left ∷ one_or_none right) d (tac.Const d c) [] home
         (λ y h. absurd (cc h)) (rolled_first (tac.Const d c)) (rolled_fresh (tac.Const d c)) (used d) (λ e. e)
     by None = kept_lifts (assigned_at (tac.Op d o left right)) (left ∷ one_or_none right) d

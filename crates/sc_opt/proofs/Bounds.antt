@@ -13,8 +13,8 @@ use Rattle.sc_tac.specs.declared.stmt.TacStmt.{roll-TacStmt}
 use Rattle.sc_tac.specs.declared.stmt.TacStmt.TheOpen as tac
 use Rattle.sc_opt.specs.Pass.{all_joined, assigned, assigned_in, assigned_step, joined}
 use Rattle.sc_opt.proofs.Unread.{reads_not, unread_first}
-use Rattle.sc_opt.specs.declared.table.Assigned.{Assigned}
-use Rattle.sc_opt.specs.declared.table.Assigned.TheVariants.{ByConstant, ByCopy, Nowhere, Otherwise}
+use Rattle.sc_opt.specs.declared.facts.Assigned.{Assigned}
+use Rattle.sc_opt.specs.declared.facts.Assigned.TheVariants.{ByConstant, ByCopy, Nowhere, Otherwise}
 
 module _ (temps t : ℕ) (out : temps ≤ t) where
   abbrev own : List ℕ → Bool

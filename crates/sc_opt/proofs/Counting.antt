@@ -13,7 +13,7 @@ use Rattle.sc_tac.specs.declared.stmt.TacStmt.{roll-TacStmt}
 use Rattle.sc_tac.specs.declared.stmt.TacStmt.TheOpen as tac
 use Rattle.sc_opt.specs.Optimised.{statement_step, statements}
 use Rattle.sc_opt.specs.Pass.{folded, keep_if, operator_code, pass, pass_step, present}
-use Rattle.sc_opt.specs.declared.table.Assigned.{Assigned}
+use Rattle.sc_opt.specs.declared.facts.Assigned.{Assigned}
 
 -- a statement without others inside
 abbrev is_leaf : TacStmt-F ℕ → Bool
@@ -116,7 +116,7 @@ module _ (table : ℕ → Assigned) (source : ℕ → ℕ) (used holds_word : �
   if_kept false k l h i = omega arith
 
   op_fewer : (d : ℕ) (o : TacOp) (left : ℕ) (right : Option ℕ) (f : Option Constant) →
-      number_left (operator_code table source used holds_word d o left right f) ≤ step (tac.Op d o left right)
+      number_left (operator_code source used holds_word d o left right f) ≤ step (tac.Op d o left right)
   op_fewer d o left right (Some c) = if_kept (used d) (tac.Const d c) (tac.Op d o left right) refl refl
   op_fewer d o left right None =
       if_kept _ (tac.Op d o (source left) (option_map source right)) (tac.Op d o left right) refl refl
@@ -128,7 +128,7 @@ module _ (table : ℕ → Assigned) (source : ℕ → ℕ) (used holds_word : �
       number_left (pass_step table source used holds_word (map-TacStmt _ _ passes k)) ≤ step (map-TacStmt _ _ number k)
   layer_fewer (tac.Const d value) i = if_kept (used d) (tac.Const d value) (tac.Const d value) refl refl
   layer_fewer (tac.Copy d from) i = if_kept _ (tac.Copy d (source from)) (tac.Copy d from) refl refl
-  layer_fewer (tac.Op d o left right) i = op_fewer d o left right (folded table source used holds_word o left right)
+  layer_fewer (tac.Op d o left right) i = op_fewer d o left right (folded table o left right)
   layer_fewer (tac.ObjectPlace d object) i =
       if_kept (used d) (tac.ObjectPlace d object) (tac.ObjectPlace d object) refl refl
   layer_fewer (tac.GlobalPlace d global) i =

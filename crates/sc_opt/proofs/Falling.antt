@@ -17,7 +17,7 @@ use Rattle.sc_tac.specs.declared.stmt.TacStmt.{TacStmt, TacStmt-F, fold-TacStmt,
 use Rattle.sc_tac.specs.declared.stmt.TacStmt.{roll-TacStmt}
 use Rattle.sc_tac.specs.declared.stmt.TacStmt.TheOpen as tac
 use Rattle.sc_opt.specs.Pass.{folded, is_kept, is_none, is_total, keep_if, operator_code, pass, pass_step, present}
-use Rattle.sc_opt.specs.declared.table.Assigned.{Assigned}
+use Rattle.sc_opt.specs.declared.facts.Assigned.{Assigned}
 
 module _ (table : ℕ → Assigned) (source : ℕ → ℕ) (used holds_word : ℕ → Bool) where
   abbrev left_test : TacStmt → Bool
@@ -95,8 +95,8 @@ module _ (table : ℕ → Assigned) (source : ℕ → ℕ) (used holds_word : �
   true_left b h = and_from b true h refl
 
   op_falls : (d : ℕ) (o : TacOp) (left : ℕ) (right : Option ℕ) (f : Option Constant) →
-      Falls (left_weight (operator_code table source used holds_word d o left right f)) (op_weight o)
-      ((is_none f && (used d || not (is_total table source used holds_word o left right))) && true)
+      Falls (left_weight (operator_code source used holds_word d o left right f)) (op_weight o)
+      ((is_none f && (used d || not (is_total holds_word o left right))) && true)
   op_falls d o left right (Some c) = if_kept (used d) (tac.Const d c) (op_weight o) 5 _ (rolled (tac.Const d c))
       (light (op_weight o) (op_heavy o)) (some (op_weight o) (op_heavy o))
       (λ u e. absurd (apart (op_weight o) (op_heavy o) e)) where
@@ -108,10 +108,10 @@ module _ (table : ℕ → Assigned) (source : ℕ → ℕ) (used holds_word : �
 
     apart : (w : ℕ) → 7 ≤ w → 5 ≡ w → ⊥
     apart w h e = omega (arith, h, e)
-  op_falls d o left right None = if_kept (used d || not (is_total table source used holds_word o left right))
+  op_falls d o left right None = if_kept (used d || not (is_total holds_word o left right))
       (tac.Op d o (source left) (option_map source right)) (op_weight o) (op_weight o) _
       (rolled (tac.Op d o (source left) (option_map source right))) (same (op_weight o)) (some (op_weight o) (op_heavy o))
-      (λ u e. true_left (used d || not (is_total table source used holds_word o left right)) u) where
+      (λ u e. true_left (used d || not (is_total holds_word o left right)) u) where
     same : (w : ℕ) → w ≤ w
     same w = omega arith
 
@@ -130,7 +130,7 @@ module _ (table : ℕ → Assigned) (source : ℕ → ℕ) (used holds_word : �
   layer_falls (tac.Copy d from) i = if_kept (not (source d == source from) && used d) (tac.Copy d (source from)) 6 6 _
       (rolled (tac.Copy d (source from))) (omega arith) (omega arith)
       (λ u e. true_left (not (source d == source from) && used d) u)
-  layer_falls (tac.Op d o left right) i = op_falls d o left right (folded table source used holds_word o left right)
+  layer_falls (tac.Op d o left right) i = op_falls d o left right (folded table o left right)
   layer_falls (tac.ObjectPlace d object) i = if_kept (used d) (tac.ObjectPlace d object) 6 6 _
       (rolled (tac.ObjectPlace d object)) (omega arith) (omega arith) (λ u e. true_left (used d) u)
   layer_falls (tac.GlobalPlace d global) i = if_kept (used d) (tac.GlobalPlace d global) 6 6 _

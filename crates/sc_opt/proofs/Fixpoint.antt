@@ -19,20 +19,20 @@ use Rattle.sc_opt.proofs.Facts.{AtMost, below_first, below_rest}
 use Rattle.sc_opt.proofs.Falling.{all_left}
 use Rattle.sc_opt.proofs.Lean.{at_home, no_copies}
 use Rattle.sc_opt.proofs.Sources.{all_sourced, lower}
-use Rattle.sc_opt.specs.declared.table.Assigned.{Assigned}
-use Rattle.sc_opt.specs.declared.table.Assigned.TheVariants.{ByCopy, Nowhere, Several}
+use Rattle.sc_opt.specs.declared.facts.Assigned.{Assigned}
+use Rattle.sc_opt.specs.declared.facts.Assigned.TheVariants.{ByCopy, Nowhere, Several}
 
 -- WHAT IS USED IS READ
 module _ (table : ℕ → Assigned) (source : ℕ → ℕ) (home : (t : ℕ) → source t ≡ t) (x : ℕ) where
-  some_read : (ts : List ℕ) → reads_some table source x ts ≡ true → is_one x ts ≡ true
+  some_read : (ts : List ℕ) → reads_some source x ts ≡ true → is_one x ts ≡ true
   some_read [] h = h
-  some_read (t ∷ ts) h = by (or_cases (source t == x) (reads_some table source x ts) h) (some_read ts) where
-    by : ((source t == x) ≡ true) ⊎ (reads_some table source x ts ≡ true) →
-        (reads_some table source x ts ≡ true → is_one x ts ≡ true) → is_one x (t ∷ ts) ≡ true
+  some_read (t ∷ ts) h = by (or_cases (source t == x) (reads_some source x ts) h) (some_read ts) where
+    by : ((source t == x) ≡ true) ⊎ (reads_some source x ts ≡ true) →
+        (reads_some source x ts ≡ true → is_one x ts ≡ true) → is_one x (t ∷ ts) ≡ true
     by (inl is) rest = or_left (t == x) _ (ap (λ u. u == x) (sym (home t)) ∙ is)
     by (inr more) rest = or_right (t == x) _ (rest more)
 
-  unless_read : (f : Option Constant) (ts : List ℕ) → reads_unless table source f x ts ≡ true → is_one x ts ≡ true
+  unless_read : (f : Option Constant) (ts : List ℕ) → reads_unless source f x ts ≡ true → is_one x ts ≡ true
   unless_read (Some c) ts h = let no : false ≡ true = h in absurd (cc no)
   unless_read None ts h = some_read ts h
 
@@ -72,7 +72,7 @@ module _ (table : ℕ → Assigned) (source : ℕ → ℕ) (home : (t : ℕ) →
   layer_named (tac.Const dest value) i h = h
   layer_named (tac.Copy dest from) i h = alone _ _ (copy_named dest from) h
   layer_named (tac.Op dest o left right) i h =
-      alone _ _ (unless_read (folded table source (λ t. true) (λ t. true) o left right) (left ∷ one_or_none right)) h
+      alone _ _ (unless_read (folded table o left right) (left ∷ one_or_none right)) h
   layer_named (tac.ObjectPlace dest object) i h = h
   layer_named (tac.GlobalPlace dest global) i h = h
   layer_named (tac.Load dest place pointer) i h = alone _ _ (some_read (place ∷ [])) h
@@ -149,9 +149,9 @@ module _ (table : ℕ → Assigned) (source : ℕ → ℕ) (used reads holds_wor
   layer_lean (tac.Const d value) i below h = with_true _ _ (is_used d) h
   layer_lean (tac.Copy d from) i below h = with_true _ _ (copy_lean d from (below d)) h
   layer_lean (tac.Op d o one two) i below h = with_true _ _ (λ e. and_from _ _
-      (and_first (is_none (folded table source used holds_word o one two)) _ e)
-      (or_used (used d) (reads d) (not (is_total table source used holds_word o one two)) (is_used d)
-      (and_rest (is_none (folded table source used holds_word o one two)) _ e))) h
+      (and_first (is_none (folded table o one two)) _ e)
+      (or_used (used d) (reads d) (not (is_total holds_word o one two)) (is_used d)
+      (and_rest (is_none (folded table o one two)) _ e))) h
   layer_lean (tac.ObjectPlace d object) i below h = with_true _ _ (is_used d) h
   layer_lean (tac.GlobalPlace d global) i below h = with_true _ _ (is_used d) h
   layer_lean (tac.Load d place pointer) i below h = refl

@@ -21,7 +21,7 @@ use Rattle.sc_opt.proofs.Related.{Follows, Related}
 use Rattle.sc_opt.proofs.Sources.{all_sourced}
 use Rattle.sc_opt.proofs.Uses.{all_uses}
 use Rattle.sc_opt.proofs.Values.{Fits}
-use Rattle.sc_opt.specs.declared.table.Assigned.{Assigned}
+use Rattle.sc_opt.specs.declared.facts.Assigned.{Assigned}
 
 -- what a call sees of two pieces that follow
 module _ (table : ℕ → Assigned) (source : ℕ → ℕ) (used holds_word : ℕ → Bool) (result is_main : Bool) (here : Here) where

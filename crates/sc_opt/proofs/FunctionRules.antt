@@ -13,8 +13,8 @@ use Rattle.sc_tac.specs.declared.stmt.Constant.{Constant}
 use Rattle.sc_tac.specs.declared.stmt.TacStmt.{TacStmt, TacStmt-F}
 use Rattle.sc_opt.specs.Optimised.{changed_function}
 use Rattle.sc_opt.specs.Pass.{always_word, assigned_in, copy_source, is_read, one_pass, pass, table_of}
-use Rattle.sc_opt.specs.declared.table.Assigned.{Assigned}
-use Rattle.sc_opt.specs.declared.table.Assigned.TheVariants.{ByConstant}
+use Rattle.sc_opt.specs.declared.facts.Assigned.{Assigned}
+use Rattle.sc_opt.specs.declared.facts.Assigned.TheVariants.{ByConstant}
 use Rattle.sc_opt.proofs.AssignedFirst.{stays_assigned}
 use Rattle.sc_opt.proofs.Bounds.{first_nowhere}
 use Rattle.sc_opt.proofs.Facts.{not_same}
@@ -35,14 +35,15 @@ one_of_all : (n : ℕ) (body : List TacStmt) → all_assigned_first n body ≡ t
 one_of_all zero body h t less = absurd (none t less) where
   none : (t : ℕ) → t < 0 → ⊥
   none t less = omega (arith, less)
-one_of_all (suc n) body h t less = by (t == n) refl where
+one_of_all (suc n) body h t less =
+    by (t == n) refl (one_of_all n body (and_rest (is_assigned_first n body) _ h) t) where
   strict : (t ≡ n → ⊥) → t < n
   strict other = omega (arith, less, other)
 
-  by : (b : Bool) → (t == n) ≡ b → is_assigned_first t body ≡ true
-  by true is = subst (λ u. is_assigned_first u body ≡ true) (sym (eqb-true t n is))
+  by : (b : Bool) → (t == n) ≡ b → (t < n → is_assigned_first t body ≡ true) → is_assigned_first t body ≡ true
+  by true is rest = subst (λ u. is_assigned_first u body ≡ true) (sym (eqb-true t n is))
       (and_first (is_assigned_first n body) _ h)
-  by false is = one_of_all n body (and_rest (is_assigned_first n body) _ h) t (strict (not_same t n is))
+  by false is rest = rest (strict (not_same t n is))
 
 -- each temporary, where those of the function are, and its code names no other
 pub each_first : (temps : ℕ) (body : List TacStmt) → everywhere (names_own_temps temps) body ≡ true →

@@ -14,7 +14,7 @@ use Rattle.sc_tac.specs.declared.stmt.TacOp.{TacOp}
 use Rattle.sc_tac.specs.declared.stmt.TacStmt.{TacStmt-F}
 use Rattle.sc_tac.specs.declared.stmt.TacStmt.TheOpen as tac
 use Rattle.sc_opt.specs.Pass.{all_used, folded, reads_used, takes_promised, unless_folded}
-use Rattle.sc_opt.specs.declared.table.Assigned.TheVariants.{ByConstant}
+use Rattle.sc_opt.specs.declared.facts.Assigned.TheVariants.{ByConstant}
 use Rattle.sc_opt.proofs.Unread.{reads_not}
 use Rattle.sc_opt.proofs.Words.{folded_word}
 use Rattle.std.proofs.lemmas.List.{length-map}
@@ -26,7 +26,7 @@ use Rattle.sc_core.specs.Prelude.{most_params}
 use Rattle.sc_tac.specs.Prelude.{has_elements, has_operands, names_own_object, names_own_temps, one_or_none, passes_few}
 use Rattle.sc_tac.specs.Prelude.{returns_result, takes_two}
 use Rattle.sc_opt.proofs.Rules.{Stays, is_untouched}
-use Rattle.sc_opt.specs.declared.table.Assigned.{Assigned}
+use Rattle.sc_opt.specs.declared.facts.Assigned.{Assigned}
 
 module _ (table : ℕ → Assigned) (source : ℕ → ℕ) (used holds_word : ℕ → Bool) where
   few : (args : List ℕ) → nat_le (length args) most_params ≡ true → nat_le (length (map source args)) most_params ≡ true
@@ -265,29 +265,29 @@ module _ (table : ℕ → Assigned) (source : ℕ → ℕ) (used holds_word : �
       by true is = let no : true ≡ false = sym h ∙ (ap used (eqb-true (source t) x is) ∙ unused) in absurd (cc no)
       by false is = refl
 
-    none_read : (ts : List ℕ) → all_used table source used holds_word ts ≡ true → is_one x (map source ts) ≡ false
+    none_read : (ts : List ℕ) → all_used source used ts ≡ true → is_one x (map source ts) ≡ false
     none_read [] h = refl
     none_read (t ∷ ts) h = ap (λ b. b || is_one x (map source ts)) (other t (and_first (used (source t)) _ h))
         ∙ none_read ts (and_rest (used (source t)) _ h)
 
-    reads_none : (ts : List ℕ) → all_used table source used holds_word ts ≡ true →
+    reads_none : (ts : List ℕ) → all_used source used ts ≡ true →
         not (is_one x (map source ts)) ≡ true
     reads_none ts h = ap not (none_read ts h)
 
-    maybe_none : (o : Option ℕ) → all_used table source used holds_word (one_or_none o) ≡ true →
+    maybe_none : (o : Option ℕ) → all_used source used (one_or_none o) ≡ true →
         is_one x (one_or_none (option_map source o)) ≡ false
     maybe_none None h = refl
     maybe_none (Some t) h = none_read (t ∷ []) h
 
     unless : (d : ℕ) (o : TacOp) (left : ℕ) (right : Option ℕ) →
-        folded table source used holds_word o left right ≡ None →
-        reads_used table source used holds_word (tac.Op d o left right) ≡ true →
-        all_used table source used holds_word (left ∷ one_or_none right) ≡ true
+        folded table o left right ≡ None →
+        reads_used table source used (tac.Op d o left right) ≡ true →
+        all_used source used (left ∷ one_or_none right) ≡ true
     unless d o left right none h =
-        sym (ap (λ f. unless_folded table source used holds_word f (left ∷ one_or_none right)) none) ∙ h
+        sym (ap (λ f. unless_folded source used f (left ∷ one_or_none right)) none) ∙ h
 
     pub unused_stay :
-        Stays table source used holds_word (reads_used table source used holds_word) (reads_not x)
+        Stays table source used holds_word (reads_used table source used) (reads_not x)
     unused_stay = record {
       untouched = untouched_reads;
       copied = λ d from n h. reads_none (from ∷ []) (and_from (used (source from)) true
@@ -308,7 +308,7 @@ module _ (table : ℕ → Assigned) (source : ℕ → ℕ) (used holds_word : �
       returned = λ value h. ap not (maybe_none value h);
     } where
       untouched_reads : (k : TacStmt-F Bool) → is_untouched k ≡ true →
-          reads_used table source used holds_word k ≡ true → reads_not x k ≡ true
+          reads_used table source used k ≡ true → reads_not x k ≡ true
       untouched_reads (tac.Const dest value) n h = refl
       untouched_reads (tac.ObjectPlace dest object) n h = refl
       untouched_reads (tac.GlobalPlace dest global) n h = refl

@@ -42,8 +42,8 @@ use Rattle.sc_opt.proofs.Values.{Fits, load_word, total_gives, words_computed}
 use Rattle.sc_opt.proofs.Steps.{computed_related, does_option, either, gone, no_constant, pieces_then}
 use Rattle.sc_opt.proofs.Steps.{plain_source, read_here, read_then, read_there, reads, reads_all, rolled, stays, both}
 use Rattle.sc_opt.proofs.Steps.{piece_related, unread}
-use Rattle.sc_opt.specs.declared.table.Assigned.{Assigned}
-use Rattle.sc_opt.specs.declared.table.Assigned.TheVariants.{ByConstant, ByCopy, Nowhere, Otherwise, Several}
+use Rattle.sc_opt.specs.declared.facts.Assigned.{Assigned}
+use Rattle.sc_opt.specs.declared.facts.Assigned.TheVariants.{ByConstant, ByCopy, Nowhere, Otherwise, Several}
 
 some_otherwise : Otherwise ≡ Nowhere → ⊥
 some_otherwise h = absurd (cc h)
@@ -97,7 +97,7 @@ module _ (table : ℕ → Assigned) (source : ℕ → ℕ) (used holds_word : �
   word_test t = fold-TacStmt Bool (with_parts (assigns_words t))
 
   abbrev pub use_test : TacStmt → Bool
-  use_test = fold-TacStmt Bool (with_parts (reads_used table source used holds_word))
+  use_test = fold-TacStmt Bool (with_parts (reads_used table source used))
 
   abbrev pub give_test : TacStmt → Bool
   give_test = fold-TacStmt Bool (with_parts (takes_promised gives))
@@ -131,7 +131,7 @@ module _ (table : ℕ → Assigned) (source : ℕ → ℕ) (used holds_word : �
   words_at k t = with_parts (assigns_words t) (map-TacStmt _ _ (word_test t) k)
 
   abbrev use_at : TacStmt-F TacStmt → Bool
-  use_at k = with_parts (reads_used table source used holds_word) (map-TacStmt _ _ use_test k)
+  use_at k = with_parts (reads_used table source used) (map-TacStmt _ _ use_test k)
 
   abbrev give_at : TacStmt-F TacStmt → Bool
   give_at k = with_parts (takes_promised gives) (map-TacStmt _ _ give_test k)
@@ -154,7 +154,7 @@ module _ (table : ℕ → Assigned) (source : ℕ → ℕ) (used holds_word : �
       (λ t. (reading_at k t).fresh (ahead_at lives t)) = record {
         below = λ t. subst (λ x. AtMost x (table t)) (ap (λ f. f t) assigned_is) (rules.below t);
         words = λ t w. sym (fold-roll-TacStmt Bool (with_parts (assigns_words t)) k) ∙ rules.words t w;
-        uses = sym (fold-roll-TacStmt Bool (with_parts (reads_used table source used holds_word)) k) ∙ rules.uses;
+        uses = sym (fold-roll-TacStmt Bool (with_parts (reads_used table source used)) k) ∙ rules.uses;
         takes = sym (fold-roll-TacStmt Bool (with_parts (takes_promised gives)) k) ∙ rules.takes;
         fresh = λ t. sym (ap (λ r. r.fresh (ahead_at lives t)) (reading_is t)) ∙ rules.fresh t;
       } in
@@ -282,11 +282,11 @@ module _ (table : ℕ → Assigned) (source : ℕ → ℕ) (used holds_word : �
     record Second (o : TacOp) (right : Option ℕ) (v : Value) : Type 0 where
       value : Value
       here_is : second here right v a s ≡ Reached value s
-      there_is : all_used table source used holds_word (one_or_none right) ≡ true →
+      there_is : all_used source used (one_or_none right) ≡ true →
           second here (option_map source right) v b s ≡ Reached value s
-      constant_is : (c k : Constant) → with_second table source used holds_word o c right ≡ Some k → v ≡ constant_value c →
+      constant_is : (c k : Constant) → with_second table o c right ≡ Some k → v ≡ constant_value c →
           (e : Constant) × (value ≡ constant_value e) × (on_constants o c e ≡ Some k)
-      word : right_holds_word table source used holds_word right ≡ true → is_word value ≡ true
+      word : right_holds_word holds_word right ≡ true → is_word value ≡ true
 
     second_of : (o : TacOp) (right : Option ℕ) (v : Value) →
         ((t : ℕ) → is_one t (one_or_none right) ≡ true → live t ≡ true) → Second o right v
@@ -308,7 +308,7 @@ module _ (table : ℕ → Assigned) (source : ℕ → ℕ) (used holds_word : �
           word = λ w. p.words t h.value w h.ghost;
         } where
       by : (w : Value) → g t ≡ Some w → (c k : Constant) (x : Assigned) → table t ≡ x →
-          second_constant table source used holds_word o c (constant_of x) ≡ Some k →
+          second_constant o c (constant_of x) ≡ Some k →
           (e : Constant) × (w ≡ constant_value e) × (on_constants o c e ≡ Some k)
       by w ghost c k Nowhere is e = absurd (cc e)
       by w ghost c k (ByConstant d) is e = (d, p.constant t d w is ghost, e)
@@ -321,12 +321,12 @@ module _ (table : ℕ → Assigned) (source : ℕ → ℕ) (used holds_word : �
       two : Value
       here_is : (d : ℕ) → op_does here arith d o left right a s
           ≡ gets here d (operated arith (s.memory here.comp) o one two) a s
-      there_is : all_used table source used holds_word (left ∷ one_or_none right) ≡ true → (d : ℕ) →
+      there_is : all_used source used (left ∷ one_or_none right) ≡ true → (d : ℕ) →
           op_does here arith d o (source left) (option_map source right) b s
           ≡ gets here d (operated arith (s.memory here.comp) o one two) b s
-      folds : (k : Constant) → folded table source used holds_word o left right ≡ Some k →
+      folds : (k : Constant) → folded table o left right ≡ Some k →
           operated arith (s.memory here.comp) o one two ≡ Ok (constant_value k)
-      totals : is_total table source used holds_word o left right ≡ true →
+      totals : is_total holds_word o left right ≡ true →
           (z : Value) × (operated arith (s.memory here.comp) o one two ≡ Ok z)
 
     operands_of : (o : TacOp) (left : ℕ) (right : Option ℕ) →
@@ -351,7 +351,7 @@ module _ (table : ℕ → Assigned) (source : ℕ → ℕ) (used holds_word : �
               (λ w. p.words left h.value w h.ghost) r.word;
         } where
       by : (v : Value) → g left ≡ Some v → (r : Second o right v) (k : Constant) (x : Assigned) → table left ≡ x →
-          folded_from table source used holds_word o (constant_of x) right ≡ Some k →
+          folded_from table o (constant_of x) right ≡ Some k →
           operated arith (s.memory here.comp) o v r.value ≡ Ok (constant_value k)
       by v ghost r k Nowhere is e = absurd (cc e)
       by v ghost r k (ByConstant c) is e =
@@ -455,7 +455,7 @@ module _ (table : ℕ → Assigned) (source : ℕ → ℕ) (used holds_word : �
       let q = operands_of lives g a b s (λ t. is_one t (left ∷ one_or_none right) || (not (d == t || false) && lives.following t)) p o left right
       (λ t h. or_left (is_one t (left ∷ one_or_none right)) _ h) in
       across table source used holds_word (q.here_is d) refl
-      (by q (folded table source used holds_word o left right) refl) where
+      (by q (folded table o left right) refl) where
     word_of : (v w z : Value) → operated arith (s.memory here.comp) o v w ≡ Ok z → holds_word d ≡ true → is_word z ≡ true
     word_of v w z e h = words_computed arith (s.memory here.comp) o v w z
         (of_this d (gives_word o) (and_first _ true (rules.words d h))) e
@@ -465,21 +465,21 @@ module _ (table : ℕ → Assigned) (source : ℕ → ℕ) (used holds_word : �
         Keeps lives g (assigned_at (tac.Op d o left right)) (leave Next (with_temp d v a) s) (gone_or (keep_if u k) b s)
     gets_here v = gets_either lives g a b (assigned_at (tac.Op d o left right)) (λ t. is_one t (left ∷ one_or_none right)) d p new rules.below (assigned_one d) v s
 
-    stays_there : (q : Operands lives g a b s (λ t. is_one t (left ∷ one_or_none right) || (not (d == t || false) && lives.following t)) p o left right) → folded table source used holds_word o left right ≡ None →
+    stays_there : (q : Operands lives g a b s (λ t. is_one t (left ∷ one_or_none right) || (not (d == t || false) && lives.following t)) p o left right) → folded table o left right ≡ None →
         Keeps lives g (assigned_at (tac.Op d o left right)) (gets here d ((operated arith (s.memory here.comp) o q.one q.two)) a s)
         (gone_or (keep_if true (tac.Op d o (source left) (option_map source right))) b s)
     stays_there q none =
         follows_along table source used holds_word
         (rolled table source used holds_word are_sources arith here C D D (tac.Op d o (source left) (option_map source right)) b s
-        ∙ q.there_is (sym (ap (λ f. unless_folded table source used holds_word f (left ∷ one_or_none right)) none)
+        ∙ q.there_is (sym (ap (λ f. unless_folded source used f (left ∷ one_or_none right)) none)
         ∙ and_first _ true rules.uses) d)
         (computed_related table source used holds_word are_sources arith here C D lives g (assigned_at (tac.Op d o left right)) ((operated arith (s.memory here.comp) o q.one q.two)) s
         (λ v s. leave Next (with_temp d v a) s) (λ v s. leave Next (with_temp d v b) s)
         (λ v e. gets_both lives g a b (assigned_at (tac.Op d o left right)) (λ t. is_one t (left ∷ one_or_none right)) d p new rules.below (assigned_one d) v s
         (word_of q.one q.two v e)))
 
-    unless_total : (q : Operands lives g a b s (λ t. is_one t (left ∷ one_or_none right) || (not (d == t || false) && lives.following t)) p o left right) → folded table source used holds_word o left right ≡ None → (u t : Bool) → used d ≡ u →
-        is_total table source used holds_word o left right ≡ t → Keeps lives g (assigned_at (tac.Op d o left right)) (gets here d ((operated arith (s.memory here.comp) o q.one q.two)) a s)
+    unless_total : (q : Operands lives g a b s (λ t. is_one t (left ∷ one_or_none right) || (not (d == t || false) && lives.following t)) p o left right) → folded table o left right ≡ None → (u t : Bool) → used d ≡ u →
+        is_total holds_word o left right ≡ t → Keeps lives g (assigned_at (tac.Op d o left right)) (gets here d ((operated arith (s.memory here.comp) o q.one q.two)) a s)
         (gone_or (keep_if (u || not t) (tac.Op d o (source left) (option_map source right))) b s)
     unless_total q none true t e f = stays_there q none
     unless_total q none false false e f = stays_there q none
@@ -489,10 +489,10 @@ module _ (table : ℕ → Assigned) (source : ℕ → ℕ) (used holds_word : �
         (gets_unread lives g a b (assigned_at (tac.Op d o left right)) (λ t. is_one t (left ∷ one_or_none right)) d p new rules.below (assigned_one d) z.0 s
         (word_of q.one q.two z.0 z.1) e)
 
-    by : (q : Operands lives g a b s (λ t. is_one t (left ∷ one_or_none right) || (not (d == t || false) && lives.following t)) p o left right) (f : Option Constant) → folded table source used holds_word o left right ≡ f →
+    by : (q : Operands lives g a b s (λ t. is_one t (left ∷ one_or_none right) || (not (d == t || false) && lives.following t)) p o left right) (f : Option Constant) → folded table o left right ≡ f →
         Keeps lives g (assigned_at (tac.Op d o left right)) (gets here d ((operated arith (s.memory here.comp) o q.one q.two)) a s)
-        (gone_or (operator_code table source used holds_word d o left right f) b s)
-    by q None is = unless_total q is (used d) (is_total table source used holds_word o left right) refl refl
+        (gone_or (operator_code source used holds_word d o left right f) b s)
+    by q None is = unless_total q is (used d) (is_total holds_word o left right) refl refl
     by q (Some k) is =
         across table source used holds_word (ap (λ r. gets here d r a s) (q.folds k is)) refl
         (gets_here (constant_value k) (word_of q.one q.two (constant_value k) (q.folds k is)) (used d) refl
@@ -563,7 +563,7 @@ module _ (table : ℕ → Assigned) (source : ℕ → ℕ) (used holds_word : �
 
   store_kept : (place value : ℕ) → KeptAt (tac.Store place value)
   store_kept place value lives g a b s rules p new =
-      let uses = and_first (all_used table source used holds_word (place ∷ value ∷ [])) true rules.uses in
+      let uses = and_first (all_used source used (place ∷ value ∷ [])) true rules.uses in
       follows_along table source used holds_word
       (rolled table source used holds_word are_sources arith here C D D (tac.Store (source place) (source value)) b s)
       (read_then table source used holds_word are_sources arith here C D lives g (assigned_at (tac.Store place value))
@@ -610,7 +610,7 @@ module _ (table : ℕ → Assigned) (source : ℕ → ℕ) (used holds_word : �
       Known (λ t. is_one t args || (not (is_one t (one_or_none dest)) && lives.following t)) g a b → New g assignments →
       ((d : ℕ) → dest ≡ Some d → gives target ≡ true) →
       ((d : ℕ) → dest ≡ Some d → holds_word d ≡ true → not (d == d || false) ≡ true) →
-      all_used table source used holds_word args ≡ true →
+      all_used source used args ≡ true →
       Keeps lives g assignments (call_does here C dest target args a s) (call_does here D dest target (map source args) b s)
   call_kept dest target args lives g a b s assignments low is p new assigned word uses =
       let r = reads_all table source used holds_word are_sources arith here C D lives g assignments
@@ -647,7 +647,7 @@ module _ (table : ℕ → Assigned) (source : ℕ → ℕ) (used holds_word : �
       (λ h. h) (and_first _ true rules.takes))
       (λ d e w. subst (λ o. not (is_one d (one_or_none o)) ≡ true → not (d == d || false) ≡ true) (sym e) (λ h. h)
       (and_first _ true (rules.words d w)))
-      (and_first (all_used table source used holds_word args) true rules.uses))
+      (and_first (all_used source used args) true rules.uses))
 
   cross_kept : (dest : Option ℕ) (comp index : ℕ) (args : List ℕ) → KeptAt (tac.CallCross dest comp index args)
   cross_kept dest comp index args lives g a b s rules p new =
@@ -659,7 +659,7 @@ module _ (table : ℕ → Assigned) (source : ℕ → ℕ) (used holds_word : �
       (sym e) (λ h. h) (and_first _ true rules.takes))
       (λ d e w. subst (λ o. not (is_one d (one_or_none o)) ≡ true → not (d == d || false) ≡ true) (sym e) (λ h. h)
       (and_first _ true (rules.words d w)))
-      (and_first (all_used table source used holds_word args) true rules.uses))
+      (and_first (all_used source used args) true rules.uses))
 
   input_kept : (dest : Option ℕ) → KeptAt (tac.Input dest)
   input_kept dest lives g a b s rules p new =
@@ -671,7 +671,7 @@ module _ (table : ℕ → Assigned) (source : ℕ → ℕ) (used holds_word : �
       (and_first _ true rules.takes))
       (λ d e w. subst (λ o. not (is_one d (one_or_none o)) ≡ true → not (d == d || false) ≡ true) (sym e) (λ h. h)
       (and_first _ true (rules.words d w)))
-      (and_first (all_used table source used holds_word []) true rules.uses))
+      (and_first (all_used source used []) true rules.uses))
 
   output_kept : (value : ℕ) → KeptAt (tac.Output value)
   output_kept value lives g a b s rules p new =
@@ -679,7 +679,7 @@ module _ (table : ℕ → Assigned) (source : ℕ → ℕ) (used holds_word : �
       (rolled table source used holds_word are_sources arith here C D D (tac.Output (source value)) b s)
       (call_kept None Output (value ∷ []) lives g a b s (assigned_at (tac.Output value)) rules.below
       (λ d e. absurd (cc e)) p new (λ d e. absurd (cc e)) (λ d e. absurd (cc e))
-      (and_first (all_used table source used holds_word (value ∷ [])) true rules.uses))
+      (and_first (all_used source used (value ∷ [])) true rules.uses))
 
   return_kept : (value : Option ℕ) → KeptAt (tac.Return value)
   return_kept None lives g a b s rules p new =
@@ -727,7 +727,7 @@ module _ (table : ℕ → Assigned) (source : ℕ → ℕ) (used holds_word : �
       (read_then table source used holds_word are_sources arith here C D lives g (assigned_at (tac.If cond x y))
       (λ t. cond == t || (row_reads x lives t || row_reads y lives t)) a b p cond
       (or_left (cond == cond) _ (eq-eqb cond cond refl),
-      and_first (used (source cond)) true (and_first (all_used table source used holds_word (cond ∷ [])) _ rules.uses)) s
+      and_first (used (source cond)) true (and_first (all_used source used (cond ∷ [])) _ rules.uses)) s
       (λ v s. choose v (row_does x a s) (row_does y a s)) (λ v s. choose v (row_done x b s) (row_done y b s))
       (λ v ghost. chosen lives g (assigned_at (tac.If cond x y)) (is_true v) _ _ _ _
       (follows_within table source used holds_word lives g (assigned_at (tac.If cond x y)) (row_assigned x) (row_does x a s) (row_done x b s)
@@ -758,7 +758,7 @@ module _ (table : ℕ → Assigned) (source : ℕ → ℕ) (used holds_word : �
     inner_words t w = and_rest true _ (rules.words t w)
 
     inner_use : (all_true (map use_test x) && (all_true (map use_test y) && true)) ≡ true
-    inner_use = and_rest (all_used table source used holds_word (cond ∷ [])) _ rules.uses
+    inner_use = and_rest (all_used source used (cond ∷ [])) _ rules.uses
 
     inner_give : (all_true (map give_test x) && (all_true (map give_test y) && true)) ≡ true
     inner_give = and_rest true _ rules.takes

@@ -12,7 +12,7 @@ use Rattle.sc_opt.specs.Laws.{EachFunction, KeepsFunction, KeepsRules, KeepsSect
 use Rattle.sc_opt.specs.Laws.{OptimiserKeepsRules, OptimiserKeepsShape, ResultsAreLean}
 use Rattle.sc_opt.specs.Optimised.{optimised, optimised_function, optimised_program, optimised_section}
 use Rattle.sc_opt.specs.Pass.{lean}
-use Rattle.sc_opt.proofs.Passes.{branches_within, keeps_statements, no_more_within, optimised_is_lean, optimised_keeps_rules}
+use Rattle.sc_opt.proofs.Passes.{fewer_branches, fewer_statements, keeps_statements, optimised_is_lean, optimised_keeps_rules}
 use Rattle.sc_opt.proofs.Program.{c_runs_alike, wrapping_runs_alike}
 use Rattle.sc_opt.proofs.ProgramRules.{program_keeps_rules}
 
@@ -60,8 +60,8 @@ function_kept f = record {
   temps = refl;
   objects = refl;
   nodes = refl;
-  statements = no_more_within (suc (weight f.body)) f.body;
-  branches = branches_within (suc (weight f.body)) f.body;
+  statements = fewer_statements f.body;
+  branches = fewer_branches f.body;
 }
 
 functions_meet : (f : Option TacFnTree) → Meets KeepsFunction f (option_map optimised_function f)

@@ -15,8 +15,8 @@ use Rattle.sc_opt.specs.Pass.{assigned_step, is_kept, is_once, joined, source_by
 use Rattle.sc_opt.proofs.Facts.{not_same}
 use Rattle.sc_opt.proofs.Found.{Found, found_in}
 use Rattle.sc_opt.proofs.Agreement.{AreSources, Moved}
-use Rattle.sc_opt.specs.declared.table.Assigned.{Assigned}
-use Rattle.sc_opt.specs.declared.table.Assigned.TheVariants.{ByConstant, ByCopy, Nowhere, Otherwise, Several}
+use Rattle.sc_opt.specs.declared.facts.Assigned.{Assigned}
+use Rattle.sc_opt.specs.declared.facts.Assigned.TheVariants.{ByConstant, ByCopy, Nowhere, Otherwise, Several}
 
 not_true : (b : Bool) → not b ≡ true → b ≡ false
 not_true true h = let no : false ≡ true = h in absurd (cc no)

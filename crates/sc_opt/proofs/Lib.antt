@@ -27,3 +27,4 @@ pub mod FunctionRules
 pub mod ProgramRules
 pub mod Passes
 pub mod Laws
+pub mod Unchanged

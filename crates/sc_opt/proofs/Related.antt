@@ -8,8 +8,8 @@ use Rattle.sc_core_laws.specs.Prelude.{without_line}
 use Rattle.sc_tac.specs.Prelude.{Codes, Lives, TempSet, Temps, no_temps, nothing, part_lives}
 use Rattle.sc_opt.specs.Pass.{is_once}
 use Rattle.sc_opt.proofs.Agreement.{TempsAgree, begun}
-use Rattle.sc_opt.specs.declared.table.Assigned.{Assigned}
-use Rattle.sc_opt.specs.declared.table.Assigned.TheVariants.{Nowhere}
+use Rattle.sc_opt.specs.declared.facts.Assigned.{Assigned}
+use Rattle.sc_opt.specs.declared.facts.Assigned.TheVariants.{Nowhere}
 
 -- where each temporary is assigned in a piece of code
 abbrev pub Assignments : Type 0

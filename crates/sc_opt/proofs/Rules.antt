@@ -13,7 +13,7 @@ use Rattle.sc_tac.specs.declared.stmt.TacStmt.{TacStmt, TacStmt-F, fold-TacStmt,
 use Rattle.sc_tac.specs.declared.stmt.TacStmt.{roll-TacStmt}
 use Rattle.sc_tac.specs.declared.stmt.TacStmt.TheOpen as tac
 use Rattle.sc_opt.specs.Pass.{folded, is_total, keep_if, operator_code, pass, pass_step, present}
-use Rattle.sc_opt.specs.declared.table.Assigned.{Assigned}
+use Rattle.sc_opt.specs.declared.facts.Assigned.{Assigned}
 
 -- a statement that the pass leaves as it is, where it doesn't go
 abbrev pub is_untouched : TacStmt-F Bool → Bool
@@ -33,10 +33,10 @@ module _ (table : ℕ → Assigned) (source : ℕ → ℕ) (used holds_word : �
     pub copied : (d from : ℕ) → (source d == source from) ≡ false → before (tac.Copy d from) ≡ true →
         after (tac.Copy d (source from)) ≡ true
     pub operated : (d : ℕ) (o : TacOp) (left : ℕ) (right : Option ℕ) →
-        folded table source used holds_word o left right ≡ None → before (tac.Op d o left right) ≡ true →
+        folded table o left right ≡ None → before (tac.Op d o left right) ≡ true →
         after (tac.Op d o (source left) (option_map source right)) ≡ true
     pub computed : (d : ℕ) (o : TacOp) (left : ℕ) (right : Option ℕ) (c : Constant) →
-        before (tac.Op d o left right) ≡ true → folded table source used holds_word o left right ≡ Some c →
+        before (tac.Op d o left right) ≡ true → folded table o left right ≡ Some c →
         after (tac.Const d c) ≡ true
     pub loaded : (d place : ℕ) (pointer : Bool) → before (tac.Load d place pointer) ≡ true →
         after (tac.Load d (source place) pointer) ≡ true
@@ -98,8 +98,8 @@ module _ (table : ℕ → Assigned) (source : ℕ → ℕ) (used holds_word : �
     if_kept false k h = refl
 
     op_stable : (d : ℕ) (o : TacOp) (left : ℕ) (right : Option ℕ) → before (tac.Op d o left right) ≡ true →
-        (f : Option Constant) → folded table source used holds_word o left right ≡ f →
-        holds_of (operator_code table source used holds_word d o left right f) ≡ true
+        (f : Option Constant) → folded table o left right ≡ f →
+        holds_of (operator_code source used holds_word d o left right f) ≡ true
     op_stable d o left right h (Some c) is = if_kept (used d) (tac.Const d c)
         (kept (tac.Const d c) (after (tac.Const d c)) refl (stays.computed d o left right c h is))
     op_stable d o left right h None is = if_kept _ (tac.Op d o (source left) (option_map source right))
@@ -125,7 +125,7 @@ module _ (table : ℕ → Assigned) (source : ℕ → ℕ) (used holds_word : �
     layer_stable (tac.Copy d from) i h =
         copy_stable d from (and_first (before (tac.Copy d from)) true h) (source d == source from) refl
     layer_stable (tac.Op d o left right) i h = op_stable d o left right
-        (and_first (before (tac.Op d o left right)) true h) (folded table source used holds_word o left right) refl
+        (and_first (before (tac.Op d o left right)) true h) (folded table o left right) refl
     layer_stable (tac.ObjectPlace d object) i h = if_kept (used d) (tac.ObjectPlace d object)
         (untouched (tac.ObjectPlace d object) (tac.ObjectPlace d object) refl refl h)
     layer_stable (tac.GlobalPlace d global) i h = if_kept (used d) (tac.GlobalPlace d global)

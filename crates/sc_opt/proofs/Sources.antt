@@ -4,8 +4,8 @@ use Rattle.std.proofs.Common.{subst, suc, sym, true, zero, ℕ, ◌<◌, ◌==�
 use Rattle.sc_opt.specs.Pass.{copies_one, is_once, source_by, copy_source, copy_sources}
 use Rattle.sc_opt.proofs.Facts.{not_same}
 use Rattle.sc_opt.proofs.Agreement.{AreSources, Moved}
-use Rattle.sc_opt.specs.declared.table.Assigned.{Assigned}
-use Rattle.sc_opt.specs.declared.table.Assigned.TheVariants.{ByConstant, ByCopy, Nowhere, Otherwise, Several}
+use Rattle.sc_opt.specs.declared.facts.Assigned.{Assigned}
+use Rattle.sc_opt.specs.declared.facts.Assigned.TheVariants.{ByConstant, ByCopy, Nowhere, Otherwise, Several}
 
 module _ (table : ℕ → Assigned) (used holds_word : ℕ → Bool) where
   abbrev IsSource : ℕ → Type 0

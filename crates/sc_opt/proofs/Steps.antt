@@ -22,8 +22,8 @@ use Rattle.sc_opt.specs.Pass.{all_used, is_once, keep_if}
 use Rattle.sc_opt.proofs.Facts.{AtMost, decide, not_same, with_here, with_other}
 use Rattle.sc_opt.proofs.Agreement.{Gains, AreSources, Moved, TempsAgree, Reads, gained, less, reads_of}
 use Rattle.sc_opt.proofs.Related.{At, Assignments, Ends, Follows, NotYet, AddsOnly, Lands, Leaves, across, follows_along}
-use Rattle.sc_opt.specs.declared.table.Assigned.{Assigned}
-use Rattle.sc_opt.specs.declared.table.Assigned.TheVariants.{ByConstant, ByCopy, Nowhere, Otherwise, Several}
+use Rattle.sc_opt.specs.declared.facts.Assigned.{Assigned}
+use Rattle.sc_opt.specs.declared.facts.Assigned.TheVariants.{ByConstant, ByCopy, Nowhere, Otherwise, Several}
 
 -- a statement, unless it went
 abbrev pub does_option : Arith → Here → Calls → Option TacStmt → Codes
@@ -140,7 +140,7 @@ module _ (table : ℕ → Assigned) (source : ℕ → ℕ) (used holds_word : �
       one_more ts v o = and_then o (λ vs s. Reached (v ∷ vs) s)
 
       pub reads_all : (ts : List ℕ) → ((t : ℕ) → is_one t ts ≡ true → first t ≡ true) →
-          all_used table source used holds_word ts ≡ true → (s : State) → ReadsAll ts s
+          all_used source used ts ≡ true → (s : State) → ReadsAll ts s
       reads_all [] live all s = record { values = []; here_is = refl; there_is = refl }
       reads_all (t ∷ ts) live all s =
           let r = reads t (live t (or_left (t == t) _ (eq-eqb t t refl)), and_first (used (source t)) _ all) in

@@ -11,7 +11,7 @@ use Rattle.sc_tac.specs.declared.stmt.TacStmt.{TacStmt, TacStmt-F, fold-TacStmt,
 use Rattle.sc_tac.specs.declared.stmt.TacStmt.{roll-TacStmt}
 use Rattle.sc_tac.specs.declared.stmt.TacStmt.TheOpen as tac
 use Rattle.sc_opt.specs.Pass.{folded, keep_if, operator_code, pass, pass_step, present}
-use Rattle.sc_opt.specs.declared.table.Assigned.{Assigned}
+use Rattle.sc_opt.specs.declared.facts.Assigned.{Assigned}
 
 -- a statement without others inside, which leaves no loop
 abbrev is_plain : TacStmt-F Bool → Bool
@@ -115,7 +115,7 @@ module _ (table : ℕ → Assigned) (source : ℕ → ℕ) (used holds_word : �
   if_kept false k plain = refl
 
   op_tame : (d : ℕ) (o : TacOp) (left : ℕ) (right : Option ℕ) (f : Option Constant) →
-      strays_of (operator_code table source used holds_word d o left right f) ≡ false
+      strays_of (operator_code source used holds_word d o left right f) ≡ false
   op_tame d o left right (Some c) = if_kept (used d) (tac.Const d c) refl
   op_tame d o left right None = if_kept _ (tac.Op d o (source left) (option_map source right)) refl
 
@@ -123,7 +123,7 @@ module _ (table : ℕ → Assigned) (source : ℕ → ℕ) (used holds_word : �
       strays_of (pass_step table source used holds_word (map-TacStmt _ _ passes k)) ≡ false
   layer_tame (tac.Const d value) i h = if_kept (used d) (tac.Const d value) refl
   layer_tame (tac.Copy d from) i h = if_kept _ (tac.Copy d (source from)) refl
-  layer_tame (tac.Op d o left right) i h = op_tame d o left right (folded table source used holds_word o left right)
+  layer_tame (tac.Op d o left right) i h = op_tame d o left right (folded table o left right)
   layer_tame (tac.ObjectPlace d object) i h = if_kept (used d) (tac.ObjectPlace d object) refl
   layer_tame (tac.GlobalPlace d global) i h = if_kept (used d) (tac.GlobalPlace d global) refl
   layer_tame (tac.Load d place pointer) i h = none (tac.Load d (source place) pointer) refl

@@ -22,7 +22,7 @@ use Rattle.sc_tac.specs.declared.stmt.Constant.TheVariants as constant
 use Rattle.sc_tac.specs.declared.stmt.TacOp.{TacOp}
 use Rattle.sc_tac.specs.declared.stmt.TacOp.TheVariants as tacop
 use Rattle.sc_opt.specs.Pass.{constant_from, gives_word, is_total_signed, is_total_unsigned, is_total, on_constants, right_holds_word}
-use Rattle.sc_opt.specs.declared.table.Assigned.{Assigned}
+use Rattle.sc_opt.specs.declared.facts.Assigned.{Assigned}
 
 -- what the pass needs of an arithmetic
 pub record Fits (arith : Arith) : Type 0 where
@@ -139,8 +139,8 @@ on_word_gives f (Ptr p) h = no_word h
 
 module _ (table : ℕ → Assigned) (source : ℕ → ℕ) (used holds_word : ℕ → Bool) where
   pub total_gives : (arith : Arith) → Fits arith → (blocks : Blocks) (o : TacOp) (left : ℕ) (right : Option ℕ)
-      (v w : Value) → is_total table source used holds_word o left right ≡ true → (holds_word left ≡ true → is_word v ≡ true) →
-      (right_holds_word table source used holds_word right ≡ true → is_word w ≡ true) → Gives (operated arith blocks o v w)
+      (v w : Value) → is_total holds_word o left right ≡ true → (holds_word left ≡ true → is_word v ≡ true) →
+      (right_holds_word holds_word right ≡ true → is_word w ≡ true) → Gives (operated arith blocks o v w)
   total_gives arith fits blocks (tacop.Unary unary.Minus scalar) left right v w h l r = no_word h
   total_gives arith fits blocks (tacop.Unary unary.Plus scalar) left right v w h l r = no_word h
   total_gives arith fits blocks (tacop.Unary unary.Not scalar) left right v w h l r = (_, refl)

@@ -19,8 +19,8 @@ use Rattle.sc_tac.specs.declared.stmt.Constant.TheVariants as constant
 use Rattle.sc_tac.specs.declared.stmt.TacOp.{TacOp}
 use Rattle.sc_tac.specs.declared.stmt.TacOp.TheVariants as tacop
 use Rattle.sc_opt.specs.Pass.{constant_of, folded, folded_from, on_constants, second_constant, with_second}
-use Rattle.sc_opt.specs.declared.table.Assigned.{Assigned}
-use Rattle.sc_opt.specs.declared.table.Assigned.TheVariants.{ByConstant, ByCopy, Nowhere, Otherwise, Several}
+use Rattle.sc_opt.specs.declared.facts.Assigned.{Assigned}
+use Rattle.sc_opt.specs.declared.facts.Assigned.TheVariants.{ByConstant, ByCopy, Nowhere, Otherwise, Several}
 use Rattle.sc_opt.proofs.Fitting.{from_constant, wrapped}
 
 -- a value that is a word is one of the machine
@@ -110,11 +110,11 @@ on_machine_words o c d k h l e = machine_word k (wrapped_low o c d h l (constant
 module _ (table : ℕ → Assigned) (source : ℕ → ℕ) (used holds_word : ℕ → Bool)
     (words : (t : ℕ) (c : Constant) → table t ≡ ByConstant c → is_machine_word c ≡ true) where
   second_word : (o : TacOp) (c : Constant) → is_machine_word c ≡ true → (right : Option ℕ) (k : Constant) →
-      with_second table source used holds_word o c right ≡ Some k → is_machine_word k ≡ true
+      with_second table o c right ≡ Some k → is_machine_word k ≡ true
   second_word o c low None k e = on_machine_words o c c k low low e
   second_word o c low (Some t) k e = by (table t) refl e where
     by : (x : Assigned) → table t ≡ x →
-        second_constant table source used holds_word o c (constant_of x) ≡ Some k → is_machine_word k ≡ true
+        second_constant o c (constant_of x) ≡ Some k → is_machine_word k ≡ true
     by (ByConstant d) is e = on_machine_words o c d k low (words t d is) e
     by Nowhere is e = absurd (cc e)
     by (ByCopy u) is e = absurd (cc e)
@@ -122,10 +122,10 @@ module _ (table : ℕ → Assigned) (source : ℕ → ℕ) (used holds_word : �
     by Several is e = absurd (cc e)
 
   pub folded_word : (o : TacOp) (left : ℕ) (right : Option ℕ) (k : Constant) →
-      folded table source used holds_word o left right ≡ Some k → is_machine_word k ≡ true
+      folded table o left right ≡ Some k → is_machine_word k ≡ true
   folded_word o left right k e = by (table left) refl e where
     by : (x : Assigned) → table left ≡ x →
-        folded_from table source used holds_word o (constant_of x) right ≡ Some k → is_machine_word k ≡ true
+        folded_from table o (constant_of x) right ≡ Some k → is_machine_word k ≡ true
     by (ByConstant c) is e = second_word o c (words left c is) right k e
     by Nowhere is e = absurd (cc e)
     by (ByCopy u) is e = absurd (cc e)

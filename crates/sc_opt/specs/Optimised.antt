@@ -8,15 +8,15 @@ use Rattle.sc_tac.specs.declared.program.TacTree.{TacTree}
 use Rattle.sc_tac.specs.declared.stmt.TacStmt.{TacStmt, TacStmt-F, fold-TacStmt}
 use Rattle.sc_opt.specs.Pass.{one_pass}
 
--- at most this number of passes
+-- one pass, and where it takes weight away at most this number of further ones
 abbrev pub optimised_within : ℕ → List TacStmt → List TacStmt
-optimised_within zero body = body
+optimised_within zero body = one_pass body
 optimised_within (suc passes) body =
-    if weight (one_pass body) == weight body then body else optimised_within passes (one_pass body)
+    if weight (one_pass body) == weight body then one_pass body else optimised_within passes (one_pass body)
 
--- a pass that changes something takes weight away, so there are no more of them than that
+-- passes until one takes no weight away
 abbrev pub optimised : List TacStmt → List TacStmt
-optimised body = optimised_within (suc (weight body)) body
+optimised body = optimised_within (weight body) body
 
 module _ (change : List TacStmt → List TacStmt) where
   abbrev pub changed_function : TacFnTree → TacFnTree

@@ -22,8 +22,8 @@ use Rattle.sc_tac.specs.declared.stmt.TacOp.{TacOp}
 use Rattle.sc_tac.specs.declared.stmt.TacOp.TheVariants as tacop
 use Rattle.sc_tac.specs.declared.stmt.TacStmt.{TacStmt, TacStmt-F, fold-TacStmt, roll-TacStmt}
 use Rattle.sc_tac.specs.declared.stmt.TacStmt.TheOpen as tac
-use Rattle.sc_opt.specs.declared.table.Assigned.{Assigned}
-use Rattle.sc_opt.specs.declared.table.Assigned.TheVariants.{ByConstant, ByCopy, Nowhere, Otherwise, Several}
+use Rattle.sc_opt.specs.declared.facts.Assigned.{Assigned}
+use Rattle.sc_opt.specs.declared.facts.Assigned.TheVariants.{ByConstant, ByCopy, Nowhere, Otherwise, Several}
 
 abbrev pub joined : Assigned → Assigned → Assigned
 joined Nowhere y = y
@@ -119,12 +119,13 @@ present [] = []
 present (None ∷ rest) = present rest
 present (Some x ∷ rest) = x ∷ present rest
 
--- how temporaries are assigned_first, whence they are read, which are read then, and which hold words alone
-module _ (table : ℕ → Assigned) (source : ℕ → ℕ) (used holds_word : ℕ → Bool) where
-  abbrev pub second_constant : TacOp → Constant → Option Constant → Option Constant
-  second_constant o c None = None
-  second_constant o c (Some d) = on_constants o c d
+-- OPERATORS
+abbrev pub second_constant : TacOp → Constant → Option Constant → Option Constant
+second_constant o c None = None
+second_constant o c (Some d) = on_constants o c d
 
+-- where temporaries are assigned so
+module _ (table : ℕ → Assigned) where
   abbrev pub with_second : TacOp → Constant → Option ℕ → Option Constant
   with_second o c None = on_constants o c c
   with_second o c (Some t) = second_constant o c (constant_of (table t))
@@ -133,9 +134,12 @@ module _ (table : ℕ → Assigned) (source : ℕ → ℕ) (used holds_word : �
   folded_from o None right = None
   folded_from o (Some c) right = with_second o c right
 
+  -- what an operator gives on temporaries that are assigned in one place each, by constants
   abbrev pub folded : TacOp → ℕ → Option ℕ → Option Constant
   folded o left right = folded_from o (constant_of (table left)) right
 
+-- where these temporaries hold words alone
+module _ (holds_word : ℕ → Bool) where
   abbrev pub right_holds_word : Option ℕ → Bool
   right_holds_word None = false
   right_holds_word (Some t) = holds_word t
@@ -144,20 +148,27 @@ module _ (table : ℕ → Assigned) (source : ℕ → ℕ) (used holds_word : �
   abbrev pub is_total : TacOp → ℕ → Option ℕ → Bool
   is_total (tacop.Unary unary.Not scalar) left right = true
   is_total (tacop.Unary unary.BitNot scalar) left right = holds_word left
-  is_total (tacop.Binary o Unsigned) left right = is_total_unsigned o && (holds_word left && right_holds_word right)
+  is_total (tacop.Binary o Unsigned) left right =
+      is_total_unsigned o && (holds_word left && right_holds_word right)
   is_total (tacop.Binary o Int) left right = is_total_signed o && (holds_word left && right_holds_word right)
   is_total tacop.PointerNot left right = true
   is_total _ left right = false
 
+-- THE PASS
+-- where temporaries are read there, these are read then, and these hold words alone
+module _ (source : ℕ → ℕ) (used holds_word : ℕ → Bool) where
   abbrev pub operator_code : ℕ → TacOp → ℕ → Option ℕ → Option Constant → Option TacStmt
   operator_code dest o left right (Some c) = keep_if (used dest) (tac.Const dest c)
   operator_code dest o left right None =
-      keep_if (used dest || not (is_total o left right)) (tac.Op dest o (source left) (option_map source right))
+      keep_if (used dest || not (is_total holds_word o left right))
+      (tac.Op dest o (source left) (option_map source right))
 
+module _ (table : ℕ → Assigned) (source : ℕ → ℕ) (used holds_word : ℕ → Bool) where
+  -- what becomes of a statement, unless it goes
   abbrev pub pass_step : TacStmt-F (Option TacStmt) → Option TacStmt
   pass_step (tac.Const dest value) = keep_if (used dest) (tac.Const dest value)
   pass_step (tac.Copy dest from) = keep_if (not (source dest == source from) && used dest) (tac.Copy dest (source from))
-  pass_step (tac.Op dest o left right) = operator_code dest o left right (folded o left right)
+  pass_step (tac.Op dest o left right) = operator_code source used holds_word dest o left right (folded table o left right)
   pass_step (tac.ObjectPlace dest object) = keep_if (used dest) (tac.ObjectPlace dest object)
   pass_step (tac.GlobalPlace dest global) = keep_if (used dest) (tac.GlobalPlace dest global)
   pass_step (tac.Load dest place pointer) = keep (tac.Load dest (source place) pointer)
@@ -180,6 +191,8 @@ module _ (table : ℕ → Assigned) (source : ℕ → ℕ) (used holds_word : �
   abbrev pub passed : List TacStmt → List TacStmt
   passed stmts = present (map pass stmts)
 
+-- USES
+module _ (source : ℕ → ℕ) (used : ℕ → Bool) where
   -- what a statement reads in the code that the pass gives, unless it goes, is used
   abbrev pub all_used : List ℕ → Bool
   all_used temps = list_all (λ t. used (source t)) temps
@@ -188,13 +201,15 @@ module _ (table : ℕ → Assigned) (source : ℕ → ℕ) (used holds_word : �
   unless_folded (Some c) temps = true
   unless_folded None temps = all_used temps
 
+module _ (table : ℕ → Assigned) (source : ℕ → ℕ) (used : ℕ → Bool) where
   abbrev pub reads_used : TacStmt-F Bool → Bool
   reads_used (tac.Copy dest from) = source dest == source from || used (source from)
-  reads_used (tac.Op dest o left right) = unless_folded (folded o left right) (left ∷ one_or_none right)
-  reads_used stmt = all_used (temps_read stmt)
+  reads_used (tac.Op dest o left right) =
+      unless_folded source used (folded table o left right) (left ∷ one_or_none right)
+  reads_used stmt = all_used source used (temps_read stmt)
 
--- Which temporaries the code that the pass gives reads, where what can't be blamed hasn't gone yet.
-module _ (table : ℕ → Assigned) (source : ℕ → ℕ) where
+-- whether the code that the pass gives reads a temporary, where what can't be blamed hasn't gone yet
+module _ (source : ℕ → ℕ) where
   abbrev pub reads_some : ℕ → List ℕ → Bool
   reads_some x temps = list_any (λ t. source t == x) temps
 
@@ -202,11 +217,12 @@ module _ (table : ℕ → Assigned) (source : ℕ → ℕ) where
   reads_unless (Some c) x temps = false
   reads_unless None x temps = reads_some x temps
 
+module _ (table : ℕ → Assigned) (source : ℕ → ℕ) where
   abbrev pub reads_here : ℕ → TacStmt-F Bool → Bool
   reads_here x (tac.Copy dest from) = not (source dest == source from) && source from == x
   reads_here x (tac.Op dest o left right) =
-      reads_unless (folded table source (λ t. true) (λ t. true) o left right) x (left ∷ one_or_none right)
-  reads_here x stmt = reads_some x (temps_read stmt)
+      reads_unless source (folded table o left right) x (left ∷ one_or_none right)
+  reads_here x stmt = reads_some source x (temps_read stmt)
 
   abbrev pub reads_within : ℕ → TacStmt-F Bool → Bool
   reads_within x stmt = reads_here x stmt || list_any some_hold (parts stmt)
@@ -216,7 +232,7 @@ module _ (table : ℕ → Assigned) (source : ℕ → ℕ) where
 
 -- Where temporaries are read that copy others: at the one that isn't a copy, or is copied from one further on.
 module _ (table : ℕ → Assigned) where
-  -- a copy of a temporary that is assigned_first in one place too
+  -- a copy of a temporary that is assigned in one place too
   abbrev pub copies_one : Assigned → Bool
   copies_one (ByCopy from) = is_once (table from)
   copies_one _ = false
@@ -266,15 +282,15 @@ abbrev pub is_none : {A : Type 0} → Option A → Bool
 is_none None = true
 is_none (Some x) = false
 
--- no operator on constants that isn't blamed, no copy between temporaries that are each assigned_first in one place, and
+-- no operator on constants that isn't blamed, no copy between temporaries that are each assigned in one place, and
 -- nothing that can't be blamed and assigns what nobody reads
 module _ (table : ℕ → Assigned) (reads holds_word : ℕ → Bool) where
   abbrev pub is_lean : TacStmt-F Bool → Bool
   is_lean (tac.Const dest value) = reads dest
   is_lean (tac.Copy dest from) = not (is_once (table dest) && is_once (table from)) && reads dest
   is_lean (tac.Op dest o left right) =
-      is_none (folded table (λ t. t) reads holds_word o left right)
-      && (reads dest || not (is_total table (λ t. t) reads holds_word o left right))
+      is_none (folded table o left right)
+      && (reads dest || not (is_total holds_word o left right))
   is_lean (tac.ObjectPlace dest object) = reads dest
   is_lean (tac.GlobalPlace dest global) = reads dest
   is_lean stmt = true
@@ -288,7 +304,7 @@ module _ (table : ℕ → Assigned) (source : ℕ → ℕ) (used holds_word : �
   is_kept (tac.Const dest value) = used dest
   is_kept (tac.Copy dest from) = not (source dest == source from) && used dest
   is_kept (tac.Op dest o left right) =
-      is_none (folded table source used holds_word o left right) && (used dest || not (is_total table source used holds_word o left right))
+      is_none (folded table o left right) && (used dest || not (is_total holds_word o left right))
   is_kept (tac.ObjectPlace dest object) = used dest
   is_kept (tac.GlobalPlace dest global) = used dest
   is_kept stmt = true

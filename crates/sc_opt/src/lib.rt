@@ -1,6 +1,6 @@
 //! The optimiser on three-address code: constants are folded, copies are read where they come from, and dead code goes.
 #![tactic(auto)]
 
-mod table;
+mod facts;
 
-pub use table::Assigned;
+pub use facts::Assigned;
