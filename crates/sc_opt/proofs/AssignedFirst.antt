@@ -18,7 +18,7 @@ use Rattle.sc_tac.specs.declared.stmt.TacStmt.{roll-TacStmt}
 use Rattle.sc_tac.specs.declared.stmt.TacStmt.TheOpen as tac
 use Rattle.sc_opt.specs.Pass.{all_joined, folded, assigned, assigned_step, keep_if}
 use Rattle.sc_opt.specs.Pass.{operator_code, pass, pass_step, present}
-use Rattle.sc_opt.proofs.Facts.{AtMost, below_first, below_rest, decide, not_same, other_way}
+use Rattle.sc_opt.proofs.Joined.{AtMost, below_first, below_rest, decide, not_same, other_way}
 use Rattle.sc_opt.proofs.Agreement.{AreSources, Moved}
 use Rattle.sc_opt.specs.declared.facts.Assigned.{Assigned}
 use Rattle.sc_opt.specs.declared.facts.Assigned.TheVariants.{ByConstant, ByCopy, Nowhere, Otherwise, Several}

@@ -20,7 +20,7 @@ module _ (temps t : ℕ) (out : temps ≤ t) where
   abbrev own : List ℕ → Bool
   own ts = list_all (λ u. nat_lt u temps) ts
 
-  differs : (u : ℕ) → nat_lt u temps ≡ true → (u == t) ≡ false
+  pub differs : (u : ℕ) → nat_lt u temps ≡ true → (u == t) ≡ false
   differs u h = by (u == t) refl where
     below : u < temps
     below = ltb-true u temps h
@@ -32,16 +32,16 @@ module _ (temps t : ℕ) (out : temps ≤ t) where
     by true is = absurd (apart (eqb-true u t is))
     by false is = refl
 
-  not_one : (ts : List ℕ) → own ts ≡ true → is_one t ts ≡ false
+  pub not_one : (ts : List ℕ) → own ts ≡ true → is_one t ts ≡ false
   not_one [] h = refl
   not_one (u ∷ us) h = ap (λ b. b || is_one t us) (differs u (and_first (nat_lt u temps) _ h))
       ∙ not_one us (and_rest (nat_lt u temps) _ h)
 
-  front : (dest : Option ℕ) (ts : List ℕ) → own (one_or_none dest ++ ts) ≡ true → own (one_or_none dest) ≡ true
+  pub front : (dest : Option ℕ) (ts : List ℕ) → own (one_or_none dest ++ ts) ≡ true → own (one_or_none dest) ≡ true
   front None ts h = refl
   front (Some d) ts h = and_from (nat_lt d temps) true (and_first (nat_lt d temps) _ h) refl
 
-  back : (dest : Option ℕ) (ts : List ℕ) → own (one_or_none dest ++ ts) ≡ true → own ts ≡ true
+  pub back : (dest : Option ℕ) (ts : List ℕ) → own (one_or_none dest ++ ts) ≡ true → own ts ≡ true
   back None ts h = h
   back (Some d) ts h = and_rest (nat_lt d temps) _ h
 

@@ -15,10 +15,10 @@ use Rattle.sc_tac.specs.declared.stmt.TacStmt.TheOpen as tac
 use Rattle.sc_opt.specs.Pass.{all_joined, copies_one, folded, assigned, assigned_in, assigned_step}
 use Rattle.sc_opt.specs.Pass.{is_lean, is_kept, is_none, is_once, is_read, is_total, always_word, lean, reads_temp, one_pass}
 use Rattle.sc_opt.specs.Pass.{reads_here, is_read_by, reads_some, reads_unless, reads_within, copy_source, table_of}
-use Rattle.sc_opt.proofs.Facts.{AtMost, below_first, below_rest}
+use Rattle.sc_opt.proofs.Joined.{AtMost, below_first, below_rest}
 use Rattle.sc_opt.proofs.Falling.{all_left}
 use Rattle.sc_opt.proofs.Lean.{at_home, no_copies}
-use Rattle.sc_opt.proofs.Sources.{all_sourced, lower}
+use Rattle.sc_opt.proofs.Copies.{all_sourced, lower}
 use Rattle.sc_opt.specs.declared.facts.Assigned.{Assigned}
 use Rattle.sc_opt.specs.declared.facts.Assigned.TheVariants.{ByCopy, Nowhere, Several}
 

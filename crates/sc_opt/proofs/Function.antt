@@ -18,8 +18,8 @@ use Rattle.sc_opt.specs.Optimised.{changed_function}
 use Rattle.sc_opt.proofs.Kept.{code_kept}
 use Rattle.sc_opt.proofs.Agreement.{begun}
 use Rattle.sc_opt.proofs.Related.{Follows, Related}
-use Rattle.sc_opt.proofs.Sources.{all_sourced}
-use Rattle.sc_opt.proofs.Uses.{all_uses}
+use Rattle.sc_opt.proofs.Copies.{all_sourced}
+use Rattle.sc_opt.proofs.UsedReads.{all_uses}
 use Rattle.sc_opt.proofs.Values.{Fits}
 use Rattle.sc_opt.specs.declared.facts.Assigned.{Assigned}
 

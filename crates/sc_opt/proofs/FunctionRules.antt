@@ -17,17 +17,17 @@ use Rattle.sc_opt.specs.declared.facts.Assigned.{Assigned}
 use Rattle.sc_opt.specs.declared.facts.Assigned.TheVariants.{ByConstant}
 use Rattle.sc_opt.proofs.AssignedFirst.{stays_assigned}
 use Rattle.sc_opt.proofs.Bounds.{first_nowhere}
-use Rattle.sc_opt.proofs.Facts.{not_same}
+use Rattle.sc_opt.proofs.Joined.{not_same}
 use Rattle.sc_opt.proofs.Falling.{no_heavier}
 use Rattle.sc_opt.proofs.Found.{Found, found_in}
 use Rattle.sc_opt.proofs.Inside.{sources_inside}
 use Rattle.sc_opt.proofs.Instances.{arguments_stay, elements_stay, objects_stay, operands_stay, results_stay, temps_stay}
 use Rattle.sc_opt.proofs.Instances.{unused_stay, words_stay}
 use Rattle.sc_opt.proofs.Rules.{Stays, passed_keeps}
-use Rattle.sc_opt.proofs.Sources.{all_sourced}
+use Rattle.sc_opt.proofs.Copies.{all_sourced}
 use Rattle.sc_opt.proofs.Strays.{no_stray_break, no_stray_continue}
 use Rattle.sc_opt.proofs.Unread.{unread_first}
-use Rattle.sc_opt.proofs.Uses.{all_uses}
+use Rattle.sc_opt.proofs.UsedReads.{all_uses}
 
 -- ASSIGNED FIRST
 one_of_all : (n : ℕ) (body : List TacStmt) → all_assigned_first n body ≡ true → (t : ℕ) → t < n →

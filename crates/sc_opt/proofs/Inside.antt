@@ -5,7 +5,7 @@ use Rattle.sc_tac.specs.declared.stmt.TacStmt.{TacStmt}
 use Rattle.sc_opt.specs.Pass.{copy_source, is_once, table_of}
 use Rattle.sc_opt.proofs.Agreement.{Moved}
 use Rattle.sc_opt.proofs.Bounds.{assigned_nowhere}
-use Rattle.sc_opt.proofs.Sources.{all_sourced}
+use Rattle.sc_opt.proofs.Copies.{all_sourced}
 
 -- a source is a temporary of the function
 pub sources_inside : (temps : ℕ) (body : List TacStmt) (used holds_word : ℕ → Bool) →

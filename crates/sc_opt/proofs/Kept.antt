@@ -33,8 +33,8 @@ use Rattle.sc_opt.specs.Pass.{all_joined, all_used, constant_of, folded, assigne
 use Rattle.sc_opt.specs.Pass.{is_word_constant, folded_from, assigned_step, gives_word, is_once, is_total, joined, keep_if, assigns_words}
 use Rattle.sc_opt.specs.Pass.{on_constants, operator_code, pass, pass_step, present, reads_used, right_holds_word, second_constant}
 use Rattle.sc_opt.specs.Pass.{takes_promised, unless_folded, with_second}
-use Rattle.sc_opt.proofs.Facts.{AtMost, below_first, below_rest, decide, live_before, live_behind, never_both, not_same}
-use Rattle.sc_opt.proofs.Facts.{one_part}
+use Rattle.sc_opt.proofs.Joined.{AtMost, below_first, below_rest, decide, live_before, live_behind, never_both, not_same}
+use Rattle.sc_opt.proofs.Joined.{one_part}
 use Rattle.sc_opt.proofs.Agreement.{AreSources, Moved, begun, less}
 use Rattle.sc_opt.proofs.Related.{At, Assignments, Follows, NotYet, AddsOnly, across, follows_along, follows_row}
 use Rattle.sc_opt.proofs.Related.{follows_rounds, follows_within}

@@ -12,7 +12,7 @@ use Rattle.sc_tac.specs.declared.stmt.TacStmt.{roll-TacStmt}
 use Rattle.sc_tac.specs.declared.stmt.TacStmt.TheOpen as tac
 use Rattle.sc_opt.specs.Pass.{all_joined, copies_one, assigned, assigned_in}
 use Rattle.sc_opt.specs.Pass.{assigned_step, is_kept, is_once, joined, source_by, copy_source, copy_sources}
-use Rattle.sc_opt.proofs.Facts.{not_same}
+use Rattle.sc_opt.proofs.Joined.{not_same}
 use Rattle.sc_opt.proofs.Found.{Found, found_in}
 use Rattle.sc_opt.proofs.Agreement.{AreSources, Moved}
 use Rattle.sc_opt.specs.declared.facts.Assigned.{Assigned}

@@ -14,7 +14,7 @@ use Rattle.sc_opt.specs.Optimised.{changed_function, optimised, optimised_within
 use Rattle.sc_opt.specs.Pass.{always_word, copy_source, is_read, lean, one_pass, table_of, takes_promised}
 use Rattle.sc_opt.proofs.Bounds.{assigned_nowhere}
 use Rattle.sc_opt.proofs.Counting.{no_more_branches, no_more_statements}
-use Rattle.sc_opt.proofs.Facts.{not_same}
+use Rattle.sc_opt.proofs.Joined.{not_same}
 use Rattle.sc_opt.proofs.Falling.{no_heavier}
 use Rattle.sc_opt.proofs.Fixpoint.{is_lean_then}
 use Rattle.sc_opt.proofs.Function.{function_kept}

@@ -19,7 +19,7 @@ use Rattle.sc_tac.specs.declared.stmt.Constant.{Constant}
 use Rattle.sc_tac.specs.declared.stmt.TacOp.{TacOp}
 use Rattle.sc_tac.specs.declared.stmt.TacStmt.{TacStmt, TacStmt-F, fold-roll-TacStmt, map-TacStmt, roll-TacStmt}
 use Rattle.sc_opt.specs.Pass.{all_used, is_once, keep_if}
-use Rattle.sc_opt.proofs.Facts.{AtMost, decide, not_same, with_here, with_other}
+use Rattle.sc_opt.proofs.Joined.{AtMost, decide, not_same, with_here, with_other}
 use Rattle.sc_opt.proofs.Agreement.{Gains, AreSources, Moved, TempsAgree, Reads, gained, less, reads_of}
 use Rattle.sc_opt.proofs.Related.{At, Assignments, Ends, Follows, NotYet, AddsOnly, Lands, Leaves, across, follows_along}
 use Rattle.sc_opt.specs.declared.facts.Assigned.{Assigned}

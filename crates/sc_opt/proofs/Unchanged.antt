@@ -16,7 +16,7 @@ use Rattle.sc_opt.specs.Pass.{operator_code, pass, pass_step, present, table_of}
 use Rattle.sc_opt.specs.declared.facts.Assigned.{Assigned}
 use Rattle.sc_opt.proofs.Falling.{all_left}
 use Rattle.sc_opt.proofs.Lean.{at_home}
-use Rattle.sc_opt.proofs.Sources.{all_sourced}
+use Rattle.sc_opt.proofs.Copies.{all_sourced}
 
 module _ (table : ℕ → Assigned) (source : ℕ → ℕ) (used holds_word : ℕ → Bool) (home : (t : ℕ) → source t ≡ t) where
   abbrev kept : TacStmt → Bool

@@ -1,10 +1,9 @@
 //! One pass over the code of a function.
 
-ghost use Rattle.sc_opt.specs.Prelude.{changed_function, facts_at, holds_word_at, is_total, is_total_signed};
-ghost use Rattle.sc_opt.specs.Prelude.{is_total_unsigned, keep_if, one_pass, operator_code, pass_by, passed_by, source_at};
-ghost use Rattle.sc_opt.specs.Prelude.{tables_say, used_at};
-ghost use Rattle.sc_tac.specs.declared.stmt.TacStmt.TheVariants as emit;
-ghost use Rattle.std.specs.Prelude.{◌≡◌, ◌==◌, ◌&&◌, not, map, Some, None, Option, IfOk};
+ghost use Rattle.sc_opt.specs.Prelude.{Tell, changed_function, copy_by, facts_at, holds_word_at, is_total};
+ghost use Rattle.sc_opt.specs.Prelude.{is_total_signed, is_total_unsigned, one_pass, operator_by, pass_by, passed_by};
+ghost use Rattle.sc_opt.specs.Prelude.{right_holds_word, source_at, used_at};
+ghost use Rattle.std.specs.Prelude.{◌≡◌, ◌&&◌, if◌then◌else◌, map, Some, None, Option, IfOk};
 ghost use Rattle.std.specs.Option.{option_map};
 
 use crate::facts::{FactTable, facts_of};
@@ -108,4 +107,181 @@ fn is_total(facts: &FactTable, op: TacOp, left: u32, right: Option<u32>) -> bool
         TacOp::PointerNot => true,
         _ => false,
     }
+}
+
+fn keep(stmt: TacStmt, kept: bool) -> Option<TacStmt>
+    ensures { result ≡ (if kept then Some stmt else None) }
+{
+    if kept { Some(stmt) } else { None }
+}
+
+fn pass_copy(tables: &Tables, dest: u32, from: u32) -> Option<TacStmt>
+    ensures { result ≡ copy_by tables.now dest from }
+{
+    let source = tables.source(from);
+    let kept = tables.source(dest) != source && tables.is_used(dest);
+    keep(TacStmt::Copy { dest, from: source }, kept)
+}
+
+fn pass_operator(
+    tables: &Tables,
+    dest: u32,
+    op: TacOp,
+    left: u32,
+    right: Option<u32>,
+) -> Option<TacStmt>
+    ensures { result ≡ operator_by tables.now dest op left right }
+{
+    let facts = &tables.origins.facts;
+    let used = tables.is_used(dest);
+    match folded(facts, op, left, right) {
+        Some(value) => keep(TacStmt::Const { dest, value }, used),
+        None => {
+            let kept = used || !is_total(facts, op, left, right);
+            let (left, right) = (tables.source(left), tables.source_maybe(right));
+            keep(
+                TacStmt::Op {
+                    dest,
+                    op,
+                    left,
+                    right,
+                },
+                kept,
+            )
+        }
+    }
+}
+
+#[cycle(pass)]
+fn pass_all(alloc: Global, tables: &Tables, stmts: &TacStmts) -> Result<TacStmts, OutOfMemory>
+    ensures { IfOk result (λ passed. passed ≡ passed_by tables.now stmts.now) }
+{
+    let mut passed = TacStmts::new(alloc);
+    for stmt in stmts.as_slice() {
+        if let Some(kept) = pass_stmt(alloc, tables, stmt)? {
+            passed.push(kept)?;
+        }
+    }
+    Ok(passed)
+}
+
+#[cycle(pass)]
+fn pass_stmt(alloc: Global, tables: &Tables, stmt: &TacStmt) -> Result<Option<TacStmt>, OutOfMemory>
+    ensures { IfOk result (λ passed. passed ≡ pass_by tables.now stmt.now) }
+{
+    Ok(match stmt {
+        TacStmt::Const { dest, value } => {
+            let (dest, value) = (*dest, *value);
+            keep(TacStmt::Const { dest, value }, tables.is_used(dest))
+        }
+        TacStmt::Copy { dest, from } => pass_copy(tables, *dest, *from),
+        TacStmt::Op {
+            dest,
+            op,
+            left,
+            right,
+        } => pass_operator(tables, *dest, *op, *left, *right),
+        TacStmt::ObjectPlace { dest, object } => {
+            let (dest, object) = (*dest, *object);
+            keep(TacStmt::ObjectPlace { dest, object }, tables.is_used(dest))
+        }
+        TacStmt::GlobalPlace { dest, global } => {
+            let (dest, global) = (*dest, *global);
+            keep(TacStmt::GlobalPlace { dest, global }, tables.is_used(dest))
+        }
+        TacStmt::Load {
+            dest,
+            place,
+            pointer,
+        } => Some(TacStmt::Load {
+            dest: *dest,
+            place: tables.source(*place),
+            pointer: *pointer,
+        }),
+        TacStmt::Store { place, value } => Some(TacStmt::Store {
+            place: tables.source(*place),
+            value: tables.source(*value),
+        }),
+        TacStmt::If {
+            cond,
+            then_part,
+            else_part,
+        } => Some(TacStmt::If {
+            cond: tables.source(*cond),
+            then_part: pass_all(alloc, tables, then_part)?,
+            else_part: pass_all(alloc, tables, else_part)?,
+        }),
+        TacStmt::Loop { head, body, next } => Some(TacStmt::Loop {
+            head: pass_all(alloc, tables, head)?,
+            body: pass_all(alloc, tables, body)?,
+            next: pass_all(alloc, tables, next)?,
+        }),
+        TacStmt::Break => Some(TacStmt::Break),
+        TacStmt::Continue => Some(TacStmt::Continue),
+        TacStmt::CallOwn {
+            dest,
+            function,
+            args,
+        } => Some(TacStmt::CallOwn {
+            dest: *dest,
+            function: *function,
+            args: tables.source_all(alloc, args)?,
+        }),
+        TacStmt::CallCross {
+            dest,
+            comp,
+            index,
+            args,
+        } => Some(TacStmt::CallCross {
+            dest: *dest,
+            comp: *comp,
+            index: *index,
+            args: tables.source_all(alloc, args)?,
+        }),
+        TacStmt::Input { dest } => Some(TacStmt::Input { dest: *dest }),
+        TacStmt::Output { value } => Some(TacStmt::Output {
+            value: tables.source(*value),
+        }),
+        TacStmt::Alloc { dest, count, words } => Some(TacStmt::Alloc {
+            dest: *dest,
+            count: tables.source(*count),
+            words: *words,
+        }),
+        TacStmt::Free { pointer } => Some(TacStmt::Free {
+            pointer: tables.source(*pointer),
+        }),
+        TacStmt::Return { value } => Some(TacStmt::Return {
+            value: tables.source_maybe(*value),
+        }),
+    })
+}
+
+// What a pass has to know of code.
+fn tables_of(alloc: Global, temps: u32, body: &TacStmts) -> Result<Tables, OutOfMemory>
+    ensures { IfOk result (Tell temps body.now) }
+{
+    let facts = facts_of(alloc, temps, body)?;
+    let sources = sources_of(alloc, temps, &facts)?;
+    let origins = Origins { facts, sources };
+    let marks = uses_of(alloc, temps, &origins, body)?;
+    Ok(Tables { origins, marks })
+}
+
+/// The function after one pass.
+pub fn pass_function(alloc: Global, f: &TacFn) -> Result<TacFn, OutOfMemory>
+    ensures { IfOk result (λ passed. passed ≡ changed_function one_pass f.now) }
+{
+    let tree = f.tree();
+    let tables = tables_of(alloc, tree.temps, &tree.body)?;
+    Ok(TacFn::new(TacFnTree {
+        comp: tree.comp,
+        name: tree.name,
+        entry: tree.entry,
+        params: tree.params,
+        result: tree.result,
+        temps: tree.temps,
+        objects: ObjectCells::from_slice(alloc, tree.objects.as_slice())?,
+        nodes: tree.nodes,
+        body: pass_all(alloc, &tables, &tree.body)?,
+    }))
 }

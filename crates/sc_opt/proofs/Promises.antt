@@ -13,7 +13,7 @@ use Rattle.sc_opt.specs.Laws.{OptimiserKeepsRules, OptimiserKeepsShape, ResultsA
 use Rattle.sc_opt.specs.Optimised.{optimised, optimised_function, optimised_program, optimised_section}
 use Rattle.sc_opt.specs.Pass.{lean}
 use Rattle.sc_opt.proofs.Passes.{fewer_branches, fewer_statements, keeps_statements, optimised_is_lean, optimised_keeps_rules}
-use Rattle.sc_opt.proofs.Program.{c_runs_alike, wrapping_runs_alike}
+use Rattle.sc_opt.proofs.Programs.{c_runs_alike, wrapping_runs_alike}
 use Rattle.sc_opt.proofs.ProgramRules.{program_keeps_rules}
 
 pub optimiser_keeps_meaning : OptimiserKeepsMeaning

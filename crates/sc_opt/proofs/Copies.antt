@@ -2,7 +2,7 @@
 use Rattle.std.proofs.Common.{Bool, ap, arith, eq-eqb, eqb-true, false, if◌then◌else◌, inl, inr, ltb-true, nat_lt, refl}
 use Rattle.std.proofs.Common.{subst, suc, sym, true, zero, ℕ, ◌<◌, ◌==◌, ◌∙◌, ◌≡◌, ◌⊎◌}
 use Rattle.sc_opt.specs.Pass.{copies_one, is_once, source_by, copy_source, copy_sources}
-use Rattle.sc_opt.proofs.Facts.{not_same}
+use Rattle.sc_opt.proofs.Joined.{not_same}
 use Rattle.sc_opt.proofs.Agreement.{AreSources, Moved}
 use Rattle.sc_opt.specs.declared.facts.Assigned.{Assigned}
 use Rattle.sc_opt.specs.declared.facts.Assigned.TheVariants.{ByConstant, ByCopy, Nowhere, Otherwise, Several}
@@ -11,7 +11,7 @@ module _ (table : ℕ → Assigned) (used holds_word : ℕ → Bool) where
   abbrev IsSource : ℕ → Type 0
   IsSource t = (copy_source table t ≡ t) ⊎ Moved table (copy_source table) used holds_word t
 
-  here : (t : ℕ) → copy_source table t ≡ source_by table (copy_sources table t) t (table t)
+  pub here : (t : ℕ) → copy_source table t ≡ source_by table (copy_sources table t) t (table t)
   here t = ap (λ b. if b then source_by table (copy_sources table t) t (table t) else copy_sources table t t) (eq-eqb t t refl)
 
   nothing_below : (t : ℕ) → t < 0 → ⊥
@@ -30,7 +30,7 @@ module _ (table : ℕ → Assigned) (used holds_word : ℕ → Bool) where
         ∙ less (strict n t h (not_same {B = ⊥} t n is))
 
   -- where a temporary isn't a copy of one that is assigned_first in one place
-  at_home : (t : ℕ) → copies_one table (table t) ≡ false → copy_source table t ≡ t
+  pub at_home : (t : ℕ) → copies_one table (table t) ≡ false → copy_source table t ≡ t
   at_home t other = here t ∙ by (table t) other where
     by : (x : Assigned) → copies_one table x ≡ false → source_by table (copy_sources table t) t x ≡ t
     by Nowhere h = refl
