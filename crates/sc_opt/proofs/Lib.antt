@@ -33,3 +33,5 @@ pub mod Marking
 pub mod Telling
 pub mod Sourcing
 pub mod Making
+pub mod Stepping
+pub mod Made

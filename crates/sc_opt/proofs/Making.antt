@@ -1,5 +1,6 @@
 -- What the pass makes of statements, as the code builds it.
 use Rattle.std.proofs.Common.{Bool, List, None, Option, Some, [], ap, ap₂, false, if◌then◌else◌, map, not, refl, sym, true}
+use Rattle.std.proofs.Common.{append_assoc, drop, get_or, length, ◌+◌, ◌<◌}
 use Rattle.std.proofs.Common.{ℕ, ◌&&◌, ◌++◌, ◌==◌, ◌||◌, ◌∙◌, ◌∷◌, ◌≡◌}
 use Rattle.std.specs.Option.{option_map}
 use Rattle.sc_tac.specs.declared.stmt.Constant.{Constant}
@@ -8,6 +9,7 @@ use Rattle.sc_tac.specs.declared.stmt.TacStmt.{TacStmt, TacStmt-F, fold-TacStmt,
 use Rattle.sc_tac.specs.declared.stmt.TacStmt.{roll-TacStmt}
 use Rattle.sc_tac.specs.declared.stmt.TacStmt.TheOpen as tac
 use Rattle.sc_tac.specs.declared.stmt.TacStmt.TheVariants as emit
+use Rattle.sc_opt.proofs.Stepping.{parted_of}
 use Rattle.sc_opt.specs.Pass.{folded, is_total, keep_if, operator_code, pass, pass_step, present}
 use Rattle.sc_opt.specs.Tables.{assigned_at, copy_by, holds_word_at, keep_when, operator_by, operator_from, pass_by}
 use Rattle.sc_opt.specs.Tables.{passed_by, source_at, used_at}
@@ -141,3 +143,18 @@ module _ (tables : Tables) where
       Some (emit.Return (option_map source value)) ≡ pass_by tables stmt
   return_made stmt value is = stays stmt _ (tac.Return value) (tac.Return (option_map source value))
       (emit.rolls-Return value ∙ sym is) (emit.rolls-Return (option_map source value)) refl
+
+  -- STATEMENTS IN ORDER
+  one_more : (o : Option TacStmt) (rest : List (Option TacStmt)) → present (o ∷ []) ++ present rest ≡ present (o ∷ rest)
+  one_more None rest = refl
+  one_more (Some s) rest = refl
+
+  pub row_stepped : (items list : List TacStmt) (i : ℕ) (stmt : TacStmt) (whole made : List TacStmt)
+      (kept : Option TacStmt) → items ≡ list → i < length items → stmt ≡ get_or items i stmt → made ++ passed_by tables (drop i list) ≡ whole →
+      kept ≡ pass_by tables stmt →
+      (made ++ present (kept ∷ [])) ++ passed_by tables (drop (i + 1) list) ≡ whole
+  row_stepped items list i stmt whole made kept same less is h k =
+      append_assoc made (present (kept ∷ [])) (passed_by tables (drop (i + 1) list))
+      ∙ ap (λ l. made ++ l) ((λ j. present (k j ∷ []) ++ passed_by tables (drop (i + 1) list))
+      ∙ one_more (pass_by tables stmt) (map (pass_by tables) (drop (i + 1) list))
+      ∙ ap (passed_by tables) (parted_of items list i stmt same less is)) ∙ h

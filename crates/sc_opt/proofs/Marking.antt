@@ -1,5 +1,6 @@
 -- The marks of what is read, statement by statement.
 use Rattle.std.proofs.Common.{Bool, List, None, Option, Some, [], ap, ap₂, false, if◌then◌else◌, map, not, refl, slice_get}
+use Rattle.std.proofs.Common.{drop, get_or, length, subst, ◌+◌, ◌<◌, ◌≤◌}
 use Rattle.std.proofs.Common.{sym, true, ℕ, ◌&&◌, ◌==◌, ◌||◌, ◌∙◌, ◌∷◌, ◌≡◌}
 use Rattle.sc_tac.specs.Prelude.{one_or_none, some_hold}
 use Rattle.sc_tac.specs.Parts.{temps_read}
@@ -9,6 +10,7 @@ use Rattle.sc_tac.specs.declared.stmt.TacStmt.{TacStmt, TacStmt-F, fold-TacStmt,
 use Rattle.sc_tac.specs.declared.stmt.TacStmt.{roll-TacStmt}
 use Rattle.sc_tac.specs.declared.stmt.TacStmt.TheOpen as tac
 use Rattle.sc_tac.specs.declared.stmt.TacStmt.TheVariants as emit
+use Rattle.sc_opt.proofs.Stepping.{ended_of, parted_of}
 use Rattle.sc_opt.specs.Pass.{folded, is_read, reads_some, reads_unless, reads_within}
 use Rattle.sc_opt.specs.Tables.{MarksAll, MarksStmt, marked, reads_stmt}
 use Rattle.sc_opt.specs.declared.facts.Assigned.{Assigned}
@@ -40,6 +42,18 @@ module _ (table : ℕ → Assigned) (source : ℕ → ℕ) where
     at = λ x. more.at x ∙ ap (marked (is_read table source rest x)) (first.at x)
         ∙ marked_twice (reads_stmt table source x stmt) (is_read table source rest x) (slice_get a x);
   }
+
+  -- one more of a list
+  pub marks_stepped : (items list : List TacStmt) (i : ℕ) (stmt : TacStmt) (a b c : List Bool) → items ≡ list →
+      i < length items → stmt ≡ get_or items i stmt → Marks stmt a b → MarksRow (drop (i + 1) list) b c →
+      MarksRow (drop i list) a c
+  marks_stepped items list i stmt a b c same less is h k = subst (λ l. MarksRow l a c)
+      (parted_of items list i stmt same less is) (marks_next stmt (drop (i + 1) list) a b c h k)
+
+  pub marks_ended : (items list : List TacStmt) (i : ℕ) (marks : List Bool) → items ≡ list → length items ≤ i →
+      MarksRow (drop i list) marks marks
+  marks_ended items list i marks same h =
+      subst (λ l. MarksRow l marks marks) (ended_of items list i same h) (marks_none marks)
 
   -- EACH KIND
   by_layer : (stmt : TacStmt) (layer : TacStmt-F TacStmt) (a b : List Bool) → roll-TacStmt layer ≡ stmt →

@@ -1,5 +1,6 @@
 -- The table of facts, statement by statement.
 use Rattle.std.proofs.Common.{Bool, List, None, Option, Some, [], ap, ap₂, false, if◌then◌else◌, map, not, refl, slice_get}
+use Rattle.std.proofs.Common.{drop, get_or, length, subst, ◌+◌, ◌<◌, ◌≤◌}
 use Rattle.std.proofs.Common.{sym, true, ℕ, ◌&&◌, ◌==◌, ◌||◌, ◌∙◌, ◌∷◌, ◌≡◌}
 use Rattle.std.specs.Option.{option_map}
 use Rattle.sc_tac.specs.Prelude.{all_true, everywhere, is_one, one_or_none, with_parts}
@@ -10,6 +11,7 @@ use Rattle.sc_tac.specs.declared.stmt.TacStmt.{TacStmt, TacStmt-F, fold-TacStmt,
 use Rattle.sc_tac.specs.declared.stmt.TacStmt.{roll-TacStmt}
 use Rattle.sc_tac.specs.declared.stmt.TacStmt.TheOpen as tac
 use Rattle.sc_tac.specs.declared.stmt.TacStmt.TheVariants as emit
+use Rattle.sc_opt.proofs.Stepping.{ended_of, parted_of}
 use Rattle.sc_opt.specs.Pass.{assigned, assigned_in, assigned_step, assigns_words, gives_word, is_word_constant, joined}
 use Rattle.sc_opt.specs.Tables.{NotesAll, NotesStmt, noted, with_fact, words_alone}
 use Rattle.sc_opt.specs.declared.facts.Assigned.{Assigned}
@@ -72,6 +74,18 @@ notes_next stmt rest a b c first more = record {
       ∙ fact_twice (assigned t stmt) (assigned_in t rest) (words_alone t stmt) (everywhere (assigns_words t) rest)
       (slice_get a t);
 }
+
+-- one more of a list
+pub notes_stepped : (items list : List TacStmt) (i : ℕ) (stmt : TacStmt) (a b c : List Facts) → items ≡ list →
+    i < length items → stmt ≡ get_or items i stmt → NotesStmt stmt a b → NotesAll (drop (i + 1) list) b c →
+    NotesAll (drop i list) a c
+notes_stepped items list i stmt a b c same less is h k = subst (λ l. NotesAll l a c)
+    (parted_of items list i stmt same less is) (notes_next stmt (drop (i + 1) list) a b c h k)
+
+pub notes_ended : (items list : List TacStmt) (i : ℕ) (table : List Facts) → items ≡ list → length items ≤ i →
+    NotesAll (drop i list) table table
+notes_ended items list i table same h =
+    subst (λ l. NotesAll l table table) (ended_of items list i same h) (notes_none table)
 
 -- EACH KIND
 -- a statement by its layer

@@ -166,7 +166,7 @@ pass_by_pass body = by (weight body) refl (kept_weight body) refl where
       optimised_within w body ≡ (if b then one_pass body else optimised (one_pass body))
   by zero none true is = refl
   by zero none false is =
-      absurd (not_same {⊥} (weight (one_pass body)) (weight body) is (nothing none (no_heavier_pass body)))
+      absurd (not_same {B = ⊥} (weight (one_pass body)) (weight body) is (nothing none (no_heavier_pass body)))
   by (suc m) some true is = ap (λ b. if b then one_pass body else optimised_within m (one_pass body)) is
   by (suc m) some false is = ap (λ b. if b then one_pass body else optimised_within m (one_pass body)) is
       ∙ same_within m (weight (one_pass body)) (one_pass body)
@@ -204,7 +204,7 @@ module _ (arith : Arith) (fits : Fits arith) (gives : CallTarget → Bool) (here
     by : (b : Bool) →
         AlikeTo (changed_function one_pass f) (changed_function (optimised_within n) (changed_function one_pass f)) →
         AlikeTo f (record f { body = if b then one_pass f.body else optimised_within n (one_pass f.body) })
-    by true more = once f rules takes
+    by true more C D agree giving s = once f rules takes C D agree giving s
     by false more C D agree giving s =
         along _ ((code_function arith (changed_function one_pass f)).does C here s) _
         (once f rules takes C C (all_same C) giving s)

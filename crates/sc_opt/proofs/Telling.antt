@@ -46,15 +46,15 @@ ranged f first zero t h = absurd (none t h) where
   none : (t : ℕ) → t < 0 → ⊥
   none t h = omega (arith, h)
 ranged f first (suc n) zero h = let same : first ≡ first + 0 = omega arith in ap (λ k. Some (f k)) same
-ranged f first (suc n) (suc t) h = let same : suc first + t ≡ first + suc t = omega arith in
-    ranged f (suc first) n t (omega (arith, h)) ∙ ap (λ k. Some (f k)) same
+ranged f first (suc n) (suc t) h = let same : first + 1 + t ≡ first + suc t = omega arith in
+    ranged f (first + 1) n t (omega (arith, h)) ∙ ap (λ k. Some (f k)) same
 
 pub ranged_out : {X : Type 0} (f : ℕ → X) (first n t : ℕ) → n ≤ t → slice_get (map f (range_with_len first n)) t ≡ None
 ranged_out f first zero t h = refl
 ranged_out f first (suc n) zero h = absurd (none n h) where
   none : (n : ℕ) → suc n ≤ 0 → ⊥
   none n h = omega (arith, h)
-ranged_out f first (suc n) (suc t) h = ranged_out f (suc first) n t (omega (arith, h))
+ranged_out f first (suc n) (suc t) h = ranged_out f (first + 1) n t (omega (arith, h))
 
 -- TEMPORARIES THAT AREN'T THE FUNCTION'S
 module _ (temps x : ℕ) (out : temps ≤ x) where
@@ -233,20 +233,20 @@ module _ (temps : ℕ) (body : List TacStmt) (own : everywhere (names_own_temps 
   words_are : holds_word_at facts ≡ always_word body
   words_are = λ i t. (facts_are t (nat_lt t temps) refl i).holds_word
 
-  abbrev copied : ℕ → ℕ
-  copied = copy_source (assigned_at facts)
+  abbrev copied_from : ℕ → ℕ
+  copied_from = copy_source (assigned_at facts)
 
-  source_outside : (t : ℕ) → temps ≤ t → copied t ≡ t
+  source_outside : (t : ℕ) → temps ≤ t → copied_from t ≡ t
   source_outside t out = subst (λ table. copy_source table t ≡ t) (sym table_is) (at_home (table_of body) (λ t. true)
       (λ t. true) t (ap (copies_one (table_of body)) (assigned_nowhere temps t out body own)))
 
-  source_is_at : (t : ℕ) (b : Bool) → nat_lt t temps ≡ b → source_at tables.origins.sources t ≡ copied t
+  source_is_at : (t : ℕ) (b : Bool) → nat_lt t temps ≡ b → source_at tables.origins.sources t ≡ copied_from t
   source_is_at t true is = ap (λ l. unwrap_or (slice_get l t) t) tell.sources
-      ∙ ap (λ o. unwrap_or o t) (ranged copied 0 temps t (ltb-true t temps is)) ∙ ap copied (no_more t) where
+      ∙ ap (λ o. unwrap_or o t) (ranged copied_from 0 temps t (ltb-true t temps is)) ∙ ap copied_from (no_more t) where
     no_more : (t : ℕ) → 0 + t ≡ t
     no_more t = omega arith
   source_is_at t false is = ap (λ l. unwrap_or (slice_get l t) t) tell.sources
-      ∙ ap (λ o. unwrap_or o t) (ranged_out copied 0 temps t (ltb-false t temps is))
+      ∙ ap (λ o. unwrap_or o t) (ranged_out copied_from 0 temps t (ltb-false t temps is))
       ∙ sym (source_outside t (ltb-false t temps is))
 
   source_is : source_at tables.origins.sources ≡ copy_source (table_of body)

@@ -134,14 +134,11 @@ fn note_stmt(table: &mut FactTable, stmt: &TacStmt)
 fn nothing_known(alloc: Global, temps: u32) -> Result<FactTable, OutOfMemory>
     ensures { IfOk result (λ table. table ≡ replicate temps nothing_known) }
 {
-    let mut table = FactTable::new(alloc);
-    for _ in 0..temps {
-        table.push(Facts {
-            assigned: Assigned::Nowhere,
-            holds_word: true,
-        })?;
-    }
-    Ok(table)
+    let nothing = Facts {
+        assigned: Assigned::Nowhere,
+        holds_word: true,
+    };
+    Ok(Items::from_vec(vec![in alloc; nothing; temps as usize]?))
 }
 
 /// What code says of the temporaries below a number.

@@ -1,9 +1,10 @@
 //! One pass over the code of a function.
 
 ghost use Rattle.sc_opt.specs.Prelude.{Tell, changed_function, copy_by, facts_at, holds_word_at, is_total};
-ghost use Rattle.sc_opt.specs.Prelude.{is_total_signed, is_total_unsigned, one_pass, operator_by, pass_by, passed_by};
+ghost use Rattle.sc_opt.specs.Prelude.{is_total_signed, is_total_unsigned, keep_when, one_pass};
+ghost use Rattle.sc_opt.specs.Prelude.{operator_by, pass_by, passed_by, present};
 ghost use Rattle.sc_opt.specs.Prelude.{right_holds_word, source_at, used_at};
-ghost use Rattle.std.specs.Prelude.{◌≡◌, ◌&&◌, if◌then◌else◌, map, Some, None, Option, IfOk};
+ghost use Rattle.std.specs.Prelude.{◌≡◌, ◌&&◌, ◌++◌, ◌∷◌, [], map, IfOk};
 ghost use Rattle.std.specs.Option.{option_map};
 
 use crate::facts::{FactTable, facts_of};
@@ -110,7 +111,7 @@ fn is_total(facts: &FactTable, op: TacOp, left: u32, right: Option<u32>) -> bool
 }
 
 fn keep(stmt: TacStmt, kept: bool) -> Option<TacStmt>
-    ensures { result ≡ (if kept then Some stmt else None) }
+    ensures { result ≡ keep_when kept stmt }
 {
     if kept { Some(stmt) } else { None }
 }
@@ -152,15 +153,24 @@ fn pass_operator(
     }
 }
 
+// A statement is added, unless it goes.
+fn add(stmts: &mut TacStmts, kept: Option<TacStmt>) -> Result<(), OutOfMemory>
+    ensures { IfOk result (λ _. stmts.new ≡ stmts.old ++ present (kept ∷ [])) }
+{
+    match kept {
+        None => Ok(()),
+        Some(stmt) => Ok(stmts.push(stmt)?),
+    }
+}
+
 #[cycle(pass)]
 fn pass_all(alloc: Global, tables: &Tables, stmts: &TacStmts) -> Result<TacStmts, OutOfMemory>
     ensures { IfOk result (λ passed. passed ≡ passed_by tables.now stmts.now) }
 {
     let mut passed = TacStmts::new(alloc);
     for stmt in stmts.as_slice() {
-        if let Some(kept) = pass_stmt(alloc, tables, stmt)? {
-            passed.push(kept)?;
-        }
+        let kept = pass_stmt(alloc, tables, stmt)?;
+        add(&mut passed, kept)?;
     }
     Ok(passed)
 }
@@ -273,6 +283,8 @@ pub fn pass_function(alloc: Global, f: &TacFn) -> Result<TacFn, OutOfMemory>
 {
     let tree = f.tree();
     let tables = tables_of(alloc, tree.temps, &tree.body)?;
+    let objects = ObjectCells::from_slice(alloc, tree.objects.as_slice())?;
+    let body = pass_all(alloc, &tables, &tree.body)?;
     Ok(TacFn::new(TacFnTree {
         comp: tree.comp,
         name: tree.name,
@@ -280,8 +292,8 @@ pub fn pass_function(alloc: Global, f: &TacFn) -> Result<TacFn, OutOfMemory>
         params: tree.params,
         result: tree.result,
         temps: tree.temps,
-        objects: ObjectCells::from_slice(alloc, tree.objects.as_slice())?,
+        objects,
         nodes: tree.nodes,
-        body: pass_all(alloc, &tables, &tree.body)?,
+        body,
     }))
 }

@@ -58,8 +58,10 @@ pub fn optimise(alloc: Global, tac: &Tac) -> Result<Tac, OutOfMemory>
     ensures { IfOk result (λ optimised. optimised ≡ optimised_program tac.now) }
 {
     let tree = tac.tree();
+    let interfaces = copy_interfaces(alloc, &tree.interfaces)?;
+    let sections = optimise_sections(alloc, &tree.sections)?;
     Ok(Tac::new(TacTree {
-        interfaces: copy_interfaces(alloc, &tree.interfaces)?,
-        sections: optimise_sections(alloc, &tree.sections)?,
+        interfaces,
+        sections,
     }))
 }

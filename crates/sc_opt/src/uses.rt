@@ -1,9 +1,9 @@
 //! Which temporaries are read once operators on constants are folded and copies read where they come from.
 
-ghost use Rattle.sc_opt.specs.Prelude.{MarksAll, MarksStmt, MarksUses, assigned_at, constant_of, folded, marked};
-ghost use Rattle.sc_opt.specs.Prelude.{reads_some, source_at};
+ghost use Rattle.sc_opt.specs.Prelude.{MarksAll, MarksStmt, assigned_at, constant_of, folded, marked};
+ghost use Rattle.sc_opt.specs.Prelude.{reads_some, reads_unless, source_at};
 ghost use Rattle.sc_tac.specs.Prelude.{one_or_none};
-ghost use Rattle.std.specs.Prelude.{◌≡◌, ◌==◌, ◌∷◌, ℕ, false, slice_get, replicate, IfOk};
+ghost use Rattle.std.specs.Prelude.{◌≡◌, ◌==◌, ◌&&◌, ◌∷◌, ℕ, false, not, slice_get, replicate, IfOk};
 
 use crate::constants::on_constants;
 use crate::facts::{Assigned, FactTable};
@@ -145,11 +145,7 @@ fn mark_stmt(origins: &Origins, marks: &mut Marks, stmt: &TacStmt)
 fn no_marks(alloc: Global, temps: u32) -> Result<Marks, OutOfMemory>
     ensures { IfOk result (λ marks. marks ≡ replicate temps false) }
 {
-    let mut marks = Marks::new(alloc);
-    for _ in 0..temps {
-        marks.push(false)?;
-    }
-    Ok(marks)
+    Ok(Items::from_vec(vec![in alloc; false; temps as usize]?))
 }
 
 /// Which of the temporaries below a number code reads.
