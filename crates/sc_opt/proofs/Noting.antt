@@ -99,13 +99,19 @@ by_layer stmt layer a b is h = record {
 }
 
 module _ (stmt : TacStmt) (a b : List Facts) where
-  pub const_noted : (d : ℕ) (value : Constant) → stmt ≡ emit.Const d value →
+  const_alone : (d : ℕ) (value : Constant) → stmt ≡ emit.Const d value →
       ((t : ℕ) → slice_get b t ≡ noted (d == t) (ByConstant value) (is_word_constant value) (slice_get a t)) →
       NotesStmt stmt a b
-  const_noted d value is h = by_layer stmt (tac.Const d value) a b (emit.rolls-Const d value ∙ sym is) (λ t.
+  const_alone d value is h = by_layer stmt (tac.Const d value) a b (emit.rolls-Const d value ∙ sym is) (λ t.
       h t ∙ one_fact (d == t) (ByConstant value) (is_word_constant value) (slice_get a t)
       ∙ ap (λ w. option_map (with_fact (if d == t then ByConstant value else Nowhere) w) (slice_get a t))
       (sym (and_true (not (d == t) || is_word_constant value))))
+
+  pub const_noted : (d : ℕ) (value : Constant) (word : Bool) → stmt ≡ emit.Const d value →
+      word ≡ is_word_constant value →
+      ((t : ℕ) → slice_get b t ≡ noted (d == t) (ByConstant value) word (slice_get a t)) → NotesStmt stmt a b
+  const_noted d value word is same h = const_alone d value is (subst (λ w. (t : ℕ) →
+      slice_get b t ≡ noted (d == t) (ByConstant value) w (slice_get a t)) same h)
 
   pub copy_noted : (d from : ℕ) → stmt ≡ emit.Copy d from →
       ((t : ℕ) → slice_get b t ≡ noted (d == t) (ByCopy from) false (slice_get a t)) → NotesStmt stmt a b
@@ -128,10 +134,12 @@ module _ (stmt : TacStmt) (a b : List Facts) where
   none_words : (d t : ℕ) → (not (d == t || false) && true) ≡ (not (d == t) || false)
   none_words d t = and_true (not (d == t || false)) ∙ ap not (or_false (d == t)) ∙ sym (or_false (not (d == t)))
 
-  pub op_noted : (d : ℕ) (o : TacOp) (left : ℕ) (right : Option ℕ) → stmt ≡ emit.Op d o left right →
-      ((t : ℕ) → slice_get b t ≡ noted (d == t) Otherwise (gives_word o) (slice_get a t)) → NotesStmt stmt a b
-  op_noted d o left right is h = otherwise_noted d (gives_word o) (tac.Op d o left right)
-      (emit.rolls-Op d o left right ∙ sym is) (λ t. refl) (λ t. and_true (not (d == t) || gives_word o)) h
+  pub op_noted : (d : ℕ) (o : TacOp) (left : ℕ) (right : Option ℕ) (word : Bool) → stmt ≡ emit.Op d o left right →
+      word ≡ gives_word o → ((t : ℕ) → slice_get b t ≡ noted (d == t) Otherwise word (slice_get a t)) →
+      NotesStmt stmt a b
+  op_noted d o left right word is same h = otherwise_noted d word (tac.Op d o left right)
+      (emit.rolls-Op d o left right ∙ sym is) (λ t. refl)
+      (λ t. and_true (not (d == t) || gives_word o) ∙ ap (λ w. not (d == t) || w) (sym same)) h
 
   pub object_noted : (d object : ℕ) → stmt ≡ emit.ObjectPlace d object →
       ((t : ℕ) → slice_get b t ≡ noted (d == t) Otherwise false (slice_get a t)) → NotesStmt stmt a b
