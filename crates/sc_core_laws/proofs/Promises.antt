@@ -64,7 +64,8 @@ module _ (L M : Denotations) (promises : Promises) where
         by : (f g : Option Function) → Looks f g → PiecesAgree
             (and_then (found f s) (λ f s. and_then (body number (record { comp = comp; first = length (s.memory comp) })
             (begun comp f args s)) (λ v t. back v (done comp f (length (s.memory comp)) t))))
-            (and_then (found g s) (λ f s. and_then (other number (record { comp = comp; first = length (s.memory comp) })
+            (and_then (found g s) (λ f s. and_then (other number (record { comp = comp; first = length
+                (s.memory comp) })
             (begun comp f args s)) (λ v t. back' v (done comp f (length (s.memory comp)) t))))
         by None None h = itself _
         by None (Some g) h = absurd h
@@ -121,7 +122,8 @@ module _ (L M : Denotations) (promises : Promises) where
       BodyGives body = (comp number first : ℕ) (s : State) → scripted comp ≡ false →
           IfReached (Promised (promises comp number)) (body number (record { comp = comp; first = first }) s)
 
-      called_gives : (body : Body) → BodyGives body → (from : ℕ) → scripted from ≡ false → CallsGive L M promises from (called L body)
+      called_gives : (body : Body) → BodyGives body → (from : ℕ) → scripted from ≡ false →
+          CallsGive L M promises from (called L body)
       called_gives body h from plain (Own number) args s =
           let G : Option Value → Type 0 = Promised (promises from number) in
           reached_then G (turn s) (λ _ s. call_own L body from number args s) (λ _ s.
@@ -140,9 +142,11 @@ module _ (L M : Denotations) (promises : Promises) where
       called_gives body h from plain Input args s = λ e. refl
       called_gives body h from plain Output args s = λ e. let no : false ≡ true = e in absurd (cc no)
 
-      calls_give : (body : Body) → BodyGives body → (from : ℕ) → scripted from ≡ false → CallsGive L M promises from (calls L body)
+      calls_give : (body : Body) → BodyGives body → (from : ℕ) → scripted from ≡ false → CallsGive L M promises from
+          (calls L body)
       calls_give body h from plain target args s =
-          reached_if (Promised (promised_by L M promises from target)) (may_call L from target args) (called L body from target args s)
+          reached_if (Promised (promised_by L M promises from target)) (may_call L from target args)
+              (called L body from target args s)
           (Stopped (Blamed from BadType 0) s) (called_gives body h from plain target args s) tt
 
     module _ (roles : Roles) where
@@ -157,7 +161,8 @@ module _ (L M : Denotations) (promises : Promises) where
         gives : BodyGives roles.scripted body
 
       does_agree : (body other : Body) → Bodies body other → (comp number first : ℕ) (s : State) →
-          roles.scripted comp ≡ false → (f g : Option Function) → Meets (AgreeWithPromises L M promises comp number) f g →
+          roles.scripted comp ≡ false → (f g : Option Function) → Meets
+              (AgreeWithPromises L M promises comp number) f g →
           PiecesAgree (and_then (found f s) (λ f s. f.does (calls L body) (record { comp = comp; first = first }) s))
           (and_then (found g s) (λ g s. g.does (calls M other) (record { comp = comp; first = first }) s))
       does_agree body other h comp number first s plain None None m = itself _

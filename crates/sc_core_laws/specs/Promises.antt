@@ -57,7 +57,8 @@ module _ (L M : Denotations) (promises : Promises) where
         Meets (AgreeWithPromises comp number) (function L comp number) (function M comp number)
     pub entered : (comp : ℕ) (entry : Entry) → L.entered comp entry ≡ M.entered comp entry
 
--- the same traces, ends and frames, in the meaning and whoever performs whatever script, and what functions do agrees at
+-- the same traces, ends and frames, in the meaning and whoever performs whatever script, and what functions do agrees
+-- at
 -- any bound on open calls
 pub record PromisingRunAlike : Type 0 where
   pub meaning : (L M : Denotations) (promises : Promises) → DenotationsAgreeWithPromises L M promises →

@@ -45,7 +45,8 @@ module _ (table : ℕ → Assigned) (source : ℕ → ℕ) (used holds_word : �
     pub constant : (c : Constant) → table d ≡ ByConstant c → v ≡ constant_value c
     pub word : holds_word d ≡ true → is_word v ≡ true
 
-  pub less : (live fewer : TempSet) (g a b : Temps) → ((t : ℕ) → fewer t ≡ true → live t ≡ true) → TempsAgree live g a b →
+  pub less : (live fewer : TempSet) (g a b : Temps) → ((t : ℕ) → fewer t ≡ true → live t ≡ true) →
+      TempsAgree live g a b →
       TempsAgree fewer g a b
   less live fewer g a b h p = record {
     held = λ t on. p.held t (h t on);
@@ -72,7 +73,8 @@ module _ (table : ℕ → Assigned) (source : ℕ → ℕ) (used holds_word : �
   value_is d t v w g is e = let same : ◌≡◌ {A = Option Value} (Some v) (Some w) =
       sym (with_here d v g t is) ∙ e in cc same
 
-  module _ (are_sources : AreSources) (live following : TempSet) (g a b b' : Temps) (d : ℕ) (v : Value) (p : TempsAgree live g a b)
+  module _ (are_sources : AreSources) (live following : TempSet) (g a b b' : Temps) (d : ℕ) (v : Value)
+      (p : TempsAgree live g a b)
       (gains : Gains g b b' d v) where
     -- nothing else is read where this is assigned_first
     not_source : {B : Type 0} (t : ℕ) (w : Value) → (t == d) ≡ false → g t ≡ Some w → source t ≡ d → B
@@ -88,10 +90,11 @@ module _ (table : ℕ → Assigned) (source : ℕ → ℕ) (used holds_word : �
         let before : g t ≡ Some w = sym (with_other d v g t n) ∙ e in
         decide (source t) d (λ is. not_source t w n before is)
         (λ m. with_other d v g (source t) m ∙ p.sourced t w before)) where
-      here : t ≡ d → ((source d ≡ d) ⊎ (g (source d) ≡ Some v)) → with_temp d v g (source t) ≡ Some w
-      here is (inl same) = with_here d v g (source t) (ap source is ∙ same) ∙ ap Some (value_is d t v w g is e)
-      here is (inr h) = decide (source t) d (λ same. with_here d v g (source t) same ∙ ap Some (value_is d t v w g is e))
-          (λ m. with_other d v g (source t) m ∙ (ap (λ x. g (source x)) is ∙ h) ∙ ap Some (value_is d t v w g is e))
+          here : t ≡ d → ((source d ≡ d) ⊎ (g (source d) ≡ Some v)) → with_temp d v g (source t) ≡ Some w
+          here is (inl same) = with_here d v g (source t) (ap source is ∙ same) ∙ ap Some (value_is d t v w g is e)
+          here is (inr h) = decide (source t) d (λ same. with_here d v g (source t) same ∙ ap Some
+              (value_is d t v w g is e))
+              (λ m. with_other d v g (source t) m ∙ (ap (λ x. g (source x)) is ∙ h) ∙ ap Some (value_is d t v w g is e))
 
     pub gained : ((t : ℕ) → following t ≡ true → (t == d) ≡ false → live t ≡ true) →
         TempsAgree following (with_temp d v g) (with_temp d v a) b'
@@ -107,7 +110,8 @@ module _ (table : ℕ → Assigned) (source : ℕ → ℕ) (used holds_word : �
           (λ is. ap (λ x. b' (source x)) is ∙ gains.there (sym (ap (λ x. used (source x)) is) ∙ u)
           ∙ ap Some (value_is d t v w g is e))
           (λ n. let before : g t ≡ Some w = sym (with_other d v g t n) ∙ e in
-          decide (source t) d (λ is. not_source t w n before is) (λ m. gains.others (source t) m ∙ p.kept t w before u));
+          decide (source t) d (λ is. not_source t w n before is) (λ m. gains.others (source t) m ∙
+          p.kept t w before u));
       sourced = gained_source;
       constant = λ t c w k e. decide t d
           (λ is. sym (value_is d t v w g is e) ∙ gains.constant c (sym (ap table is) ∙ k))
@@ -124,7 +128,8 @@ module _ (table : ℕ → Assigned) (source : ℕ → ℕ) (used holds_word : �
     pub ghost : g t ≡ Some value
     pub there : b (source t) ≡ Some value
 
-  pub reads_of : (live : TempSet) (g a b : Temps) (t : ℕ) → TempsAgree live g a b → live t ≡ true → used (source t) ≡ true →
+  pub reads_of : (live : TempSet) (g a b : Temps) (t : ℕ) → TempsAgree live g a b → live t ≡ true → used
+      (source t) ≡ true →
       Reads g a b t
   reads_of live g a b t p on u = let h = p.held t on in
       record { value = h.value; here = h.real; ghost = h.ghost; there = p.kept t h.value h.ghost u }

@@ -23,9 +23,11 @@ use Rattle.sc_opt.proofs.Agreement.{AreSources, Moved}
 use Rattle.sc_opt.specs.declared.facts.Assigned.{Assigned}
 use Rattle.sc_opt.specs.declared.facts.Assigned.TheVariants.{ByConstant, ByCopy, Nowhere, Otherwise, Several}
 
-module _ (table : ℕ → Assigned) (source : ℕ → ℕ) (used holds_word : ℕ → Bool) (are_sources : AreSources table source used holds_word) (x : ℕ)
+module _ (table : ℕ → Assigned) (source : ℕ → ℕ) (used holds_word : ℕ → Bool)
+    (are_sources : AreSources table source used holds_word) (x : ℕ)
     (is_used : used x ≡ true) where
-  source_plain : (d : ℕ) (y : Assigned) → AtMost y (table d) → (y ≡ Nowhere → ⊥) → ((u : ℕ) → y ≡ ByCopy u → ⊥) → source d ≡ d
+  source_plain : (d : ℕ) (y : Assigned) → AtMost y (table d) → (y ≡ Nowhere → ⊥) → ((u : ℕ) → y ≡ ByCopy u → ⊥) →
+      source d ≡ d
   source_plain d y below some other = by (are_sources d) below where
     by : ((source d ≡ d) ⊎ Moved table source used holds_word d) → AtMost y (table d) → source d ≡ d
     by (inl same) below = same
@@ -107,7 +109,8 @@ module _ (table : ℕ → Assigned) (source : ℕ → ℕ) (used holds_word : �
     continued = over.continued;
   }
 
-  row_lifts : (stmts : List TacStmt) → Each Lifted stmts → ((t : ℕ) → AtMost (all_joined (map (assigned t) stmts)) (table t)) →
+  row_lifts : (stmts : List TacStmt) → Each Lifted stmts → ((t : ℕ) → AtMost (all_joined (map (assigned t) stmts))
+      (table t)) →
       RowLifts stmts
   row_lifts [] each below = record {
     live = λ aheads ahead over h. over.following h;
@@ -115,19 +118,23 @@ module _ (table : ℕ → Assigned) (source : ℕ → ℕ) (used holds_word : �
   }
   row_lifts (s ∷ rest) each below =
       let one = each.0 (λ t. below_first (assigned t s) (all_joined (map (assigned t) rest)) (table t) (below t)) in
-      let more = row_lifts rest each.1 (λ t. below_rest (assigned t s) (all_joined (map (assigned t) rest)) (table t) (below t)) in
+      let more = row_lifts rest each.1 (λ t. below_rest (assigned t s) (all_joined (map (assigned t) rest)) (table t)
+      (below t)) in
       record {
         live = λ aheads ahead over h. one.live (λ t. record (aheads t) {
-          following = row_first (map (reading t) rest) (aheads t) }) (record ahead { following = row_read rest ahead })
+          following = row_first (map (reading t) rest) (aheads t);
+        }) (record ahead { following = row_read rest ahead })
             (behind_row rest more aheads ahead over) (sym (more_read (passes s) (map passes rest) ahead) ∙ h);
         begins = λ aheads ahead over h. more_fresh (passes s) (map passes rest) ahead
             ∙ and_from (fresh_of (passes s) (record ahead { following = row_read rest ahead })) _
             (one.begins (λ t. record (aheads t) { following = row_first (map (reading t) rest) (aheads t) })
             (record ahead { following = row_read rest ahead }) (behind_row rest more aheads ahead over)
             (λ t. and_first ((reading t s).fresh (record (aheads t) {
-            following = row_first (map (reading t) rest) (aheads t) })) _ (h t)))
+              following = row_first (map (reading t) rest) (aheads t);
+            })) _ (h t)))
             (more.begins aheads ahead over (λ t. and_rest ((reading t s).fresh (record (aheads t) {
-            following = row_first (map (reading t) rest) (aheads t) })) _ (h t)));
+              following = row_first (map (reading t) rest) (aheads t);
+            })) _ (h t)));
       }
 
   -- ONE STATEMENT
@@ -158,9 +165,9 @@ module _ (table : ℕ → Assigned) (source : ℕ → ℕ) (used holds_word : �
     kept (Some d) home k n = or_right (is_one k.t reads) _ (and_from (not ((d == k.t) || false)) _
         (decide {B = not ((d == k.t) || false) ≡ true} k.t d (λ is. clash is)
         (λ m. ap (λ b. not (b || false)) (other_way k.t d m))) k.holds) where
-      clash : {B : Type 0} → k.t ≡ d → B
-      clash is = let at : x ≡ d = sym k.same ∙ (ap source is ∙ home d refl) in
-          let no : not true ≡ true = sym (ap (λ b. not (b || false)) (eq-eqb d x (sym at))) ∙ n in absurd (cc no)
+          clash : {B : Type 0} → k.t ≡ d → B
+          clash is = let at : x ≡ d = sym k.same ∙ (ap source is ∙ home d refl) in
+              let no : not true ≡ true = sym (ap (λ b. not (b || false)) (eq-eqb d x (sym at))) ∙ n in absurd (cc no)
 
     by : (is_one x (map source reads) ≡ true) ⊎ ((not (is_one x (one_or_none dest)) && ahead.following) ≡ true) →
         Some_at (λ t. plain_at reads dest t (aheads t))
@@ -184,9 +191,9 @@ module _ (table : ℕ → Assigned) (source : ℕ → ℕ) (used holds_word : �
             (decide {B = not ((d == k.t) || false) ≡ true} k.t d (λ is. clash k is)
             (λ m. ap (λ b. not (b || false)) (other_way k.t d m))) k.holds);
       } where
-    clash : {B : Type 0} → (k : Some_at (λ t. (aheads t).following)) → k.t ≡ d → B
-    clash k is = let at : x ≡ d = sym k.same ∙ (ap source is ∙ home) in
-        let no : true ≡ false = sym is_used ∙ (ap used at ∙ unread) in absurd (cc no)
+        clash : {B : Type 0} → (k : Some_at (λ t. (aheads t).following)) → k.t ≡ d → B
+        clash k is = let at : x ≡ d = sym k.same ∙ (ap source is ∙ home) in
+            let no : true ≡ false = sym is_used ∙ (ap used at ∙ unread) in absurd (cc no)
 
   -- a copy went that stands for its source
   copy_live : (d from : ℕ) → source d ≡ source from → (aheads : ℕ → Ahead) (ahead : Ahead) → Over aheads ahead →
@@ -263,7 +270,8 @@ module _ (table : ℕ → Assigned) (source : ℕ → ℕ) (used holds_word : �
 
   otherwise_home : (d : ℕ) → AtMost (if d == d || false then Otherwise else Nowhere) (table d) → source d ≡ d
   otherwise_home d below = source_plain d Otherwise
-      (subst (λ y. AtMost y (table d)) (ap (λ b. if b || false then Otherwise else Nowhere) (eq-eqb d d refl)) below) some_otherwise no_copy
+      (subst (λ y. AtMost y (table d)) (ap (λ b. if b || false then Otherwise else Nowhere)
+      (eq-eqb d d refl)) below) some_otherwise no_copy
 
   -- a statement that stays, with its reads at the copy_sources
   plain_stays : (known : ℕ → Assigned) (reads : List ℕ) (dest : Option ℕ) (k : TacStmt-F TacStmt) →
@@ -277,7 +285,8 @@ module _ (table : ℕ → Assigned) (source : ℕ → ℕ) (used holds_word : �
   }
 
   dest_home : (dest : Option ℕ) (known : ℕ → Assigned) → ((t : ℕ) → AtMost (known t) (table t)) →
-      ((t : ℕ) → known t ≡ (if is_one t (one_or_none dest) then Otherwise else Nowhere)) → (d : ℕ) → dest ≡ Some d → source d ≡ d
+      ((t : ℕ) → known t ≡ (if is_one t (one_or_none dest) then Otherwise else Nowhere)) → (d : ℕ) → dest ≡ Some d →
+      source d ≡ d
   dest_home dest known below is d same = otherwise_home d (subst (λ y. AtMost y (table d))
       (is d ∙ ap (λ o. if is_one d (one_or_none o) then Otherwise else Nowhere) same) (below d))
 
@@ -292,8 +301,10 @@ module _ (table : ℕ → Assigned) (source : ℕ → ℕ) (used holds_word : �
       (Some (roll-TacStmt (tac.If (source cond) (present (map passes a)) (present (map passes b)))))
   if_lifts cond a b la lb = record {
     live = λ aheads ahead over h. by aheads ahead over
-        (or_cases (source cond == x) _ (sym (rolled_first (tac.If (source cond) (present (map passes a)) (present (map passes b))) ahead) ∙ h));
-    begins = λ aheads ahead over h. rolled_fresh (tac.If (source cond) (present (map passes a)) (present (map passes b))) ahead
+        (or_cases (source cond == x) _ (sym (rolled_first (tac.If (source cond) (present (map passes a)) (present
+        (map passes b))) ahead) ∙ h));
+    begins = λ aheads ahead over h. rolled_fresh (tac.If (source cond) (present (map passes a)) (present
+        (map passes b))) ahead
         ∙ and_from (row_begins a ahead) _
         (la.begins aheads ahead over (λ t. and_first (row_fresh (map (reading t) a) (aheads t)) _ (h t)))
         (lb.begins aheads ahead over (λ t. and_rest (row_fresh (map (reading t) a) (aheads t)) _ (h t)));
@@ -334,14 +345,15 @@ module _ (table : ℕ → Assigned) (source : ℕ → ℕ) (used holds_word : �
       (by (row_read stmts (part_ahead ahead false)) refl)
       (lifts.begins (λ t. part_ahead (aheads t) false) (part_ahead ahead false) (over_end aheads ahead over)
       (λ t. and_rest (not (row_first (map (reading t) stmts) (part_ahead (aheads t) false))) _ (h t))) where
-    clash : {B : Type 0} → Some_at (λ t. row_first (map (reading t) stmts) (part_ahead (aheads t) false)) → B
-    clash k = let no : not true ≡ true = sym (ap not k.holds)
-        ∙ and_first (not (row_first (map (reading k.t) stmts) (part_ahead (aheads k.t) false))) _ (h k.t) in absurd (cc no)
+        clash : {B : Type 0} → Some_at (λ t. row_first (map (reading t) stmts) (part_ahead (aheads t) false)) → B
+        clash k = let no : not true ≡ true = sym (ap not k.holds)
+            ∙ and_first (not (row_first (map (reading k.t) stmts) (part_ahead (aheads k.t) false))) _ (h k.t) in absurd
+            (cc no)
 
-    by : (b : Bool) → row_read stmts (part_ahead ahead false) ≡ b → not b ≡ true
-    by true is = clash (lifts.live (λ t. part_ahead (aheads t) false) (part_ahead ahead false)
-        (over_end aheads ahead over) is)
-    by false is = refl
+        by : (b : Bool) → row_read stmts (part_ahead ahead false) ≡ b → not b ≡ true
+        by true is = clash (lifts.live (λ t. part_ahead (aheads t) false) (part_ahead ahead false)
+            (over_end aheads ahead over) is)
+        by false is = refl
 
   loop_lifts : (a b c : List TacStmt) → RowLifts a → RowLifts b → RowLifts c →
       Lifts (assigned_at (tac.Loop a b c)) (λ t. (reading_at (tac.Loop a b c) t).first)
@@ -391,14 +403,16 @@ module _ (table : ℕ → Assigned) (source : ℕ → ℕ) (used holds_word : �
           not_same (source d) (source from) n (m.same ∙ ap source (sym one))
       at (inr m) (inr (inr h)) = let no : ByCopy m.from ≡ Several = sym m.copies ∙ h in absurd (cc no)
 
-    by : (r : Bool) → (source d == source from) ≡ r → Lifts (assigned_at (tac.Copy d from)) (plain_at (from ∷ []) (Some d))
+    by : (r : Bool) → (source d == source from) ≡ r → Lifts (assigned_at (tac.Copy d from)) (plain_at (from ∷ [])
+        (Some d))
         (λ t ahead. true) (keep_if (not r && used d) (tac.Copy d (source from)))
     by true is = record {
       live = λ aheads ahead over h. copy_live d from (eqb-true (source d) (source from) is) aheads ahead over h;
       begins = λ aheads ahead over h. refl;
     }
     by false is = kept_lifts (assigned_at (tac.Copy d from)) (from ∷ []) d (tac.Copy d (source from)) (source from ∷ [])
-        (home is) (λ y h. h) (rolled_first (tac.Copy d (source from))) (rolled_fresh (tac.Copy d (source from))) (used d)
+        (home is) (λ y h. h) (rolled_first (tac.Copy d (source from))) (rolled_fresh (tac.Copy d (source from)))
+        (used d)
         (λ e. e)
 
   op_lifts : (d : ℕ) (o : TacOp) (left : ℕ) (right : Option ℕ) → LiftedAt (tac.Op d o left right)
@@ -451,16 +465,21 @@ module _ (table : ℕ → Assigned) (source : ℕ → ℕ) (used holds_word : �
   layer_lifts (tac.GlobalPlace d global) i below = kept_lifts (assigned_at (tac.GlobalPlace d global)) [] d
       (tac.GlobalPlace d global) [] (otherwise_home d (below d)) (λ y h. h) (rolled_first (tac.GlobalPlace d global))
       (rolled_fresh (tac.GlobalPlace d global)) (used d) (λ e. e)
-  layer_lifts (tac.Load d place pointer) i below = plain_stays (assigned_at (tac.Load d place pointer)) (place ∷ []) (Some d)
+  layer_lifts (tac.Load d place pointer) i below = plain_stays (assigned_at (tac.Load d place pointer)) (place ∷ [])
+      (Some d)
       (tac.Load d (source place) pointer) (λ e same. dest_home (Some d) (assigned_at (tac.Load d place pointer)) below
       (λ t. refl) e same) (rolled_first (tac.Load d (source place) pointer))
       (rolled_fresh (tac.Load d (source place) pointer))
-  layer_lifts (tac.Store place value) i below = plain_stays (assigned_at (tac.Store place value)) (place ∷ value ∷ []) None
-      (tac.Store (source place) (source value)) (λ e same. absurd (cc same)) (rolled_first (tac.Store (source place) (source
+  layer_lifts (tac.Store place value) i below = plain_stays (assigned_at (tac.Store place value))
+      (place ∷ value ∷ []) None
+      (tac.Store (source place) (source value)) (λ e same. absurd (cc same)) (rolled_first (tac.Store (source place)
+      (source
       value))) (rolled_fresh (tac.Store (source place) (source value)))
   layer_lifts (tac.If cond a b) i below = if_lifts cond a b
-      (row_lifts a i.0 (λ t. below_first (all_joined (map (assigned t) a)) (all_joined (map (assigned t) b)) (table t) (below t)))
-      (row_lifts b i.1 (λ t. below_rest (all_joined (map (assigned t) a)) (all_joined (map (assigned t) b)) (table t) (below t)))
+      (row_lifts a i.0 (λ t. below_first (all_joined (map (assigned t) a)) (all_joined (map (assigned t) b))
+      (table t) (below t)))
+      (row_lifts b i.1 (λ t. below_rest (all_joined (map (assigned t) a)) (all_joined (map (assigned t) b)) (table t)
+      (below t)))
   layer_lifts (tac.Loop a b c) i below = loop_lifts a b c
       (row_lifts a i.0 (λ t. below_first (all_joined (map (assigned t) a)) _ (table t) (below t)))
       (row_lifts b i.1 (λ t. below_first (all_joined (map (assigned t) b)) (all_joined (map (assigned t) c)) (table t)
@@ -476,10 +495,12 @@ module _ (table : ℕ → Assigned) (source : ℕ → ℕ) (used holds_word : �
     begins = λ aheads ahead over h. rolled_fresh tac.Continue ahead;
   }
   layer_lifts (tac.CallOwn dest function args) i below = plain_stays (assigned_at (tac.CallOwn dest function args)) args
-      dest (tac.CallOwn dest function (map source args)) (dest_home dest (assigned_at (tac.CallOwn dest function args)) below
+      dest (tac.CallOwn dest function (map source args)) (dest_home dest (assigned_at
+      (tac.CallOwn dest function args)) below
       (λ t. refl)) (rolled_first (tac.CallOwn dest function (map source args)))
       (rolled_fresh (tac.CallOwn dest function (map source args)))
-  layer_lifts (tac.CallCross dest comp index args) i below = plain_stays (assigned_at (tac.CallCross dest comp index args))
+  layer_lifts (tac.CallCross dest comp index args) i below = plain_stays (assigned_at
+      (tac.CallCross dest comp index args))
       args dest (tac.CallCross dest comp index (map source args))
       (dest_home dest (assigned_at (tac.CallCross dest comp index args)) below (λ t. refl))
       (rolled_first (tac.CallCross dest comp index (map source args)))
@@ -490,7 +511,8 @@ module _ (table : ℕ → Assigned) (source : ℕ → ℕ) (used holds_word : �
   layer_lifts (tac.Output value) i below = plain_stays (assigned_at (tac.Output value)) (value ∷ []) None
       (tac.Output (source value)) (λ e same. absurd (cc same)) (rolled_first (tac.Output (source value)))
       (rolled_fresh (tac.Output (source value)))
-  layer_lifts (tac.Alloc d count words) i below = plain_stays (assigned_at (tac.Alloc d count words)) (count ∷ []) (Some d)
+  layer_lifts (tac.Alloc d count words) i below = plain_stays (assigned_at (tac.Alloc d count words)) (count ∷ [])
+      (Some d)
       (tac.Alloc d (source count) words) (λ e same. dest_home (Some d) (assigned_at (tac.Alloc d count words)) below
       (λ t. refl) e same) (rolled_first (tac.Alloc d (source count) words))
       (rolled_fresh (tac.Alloc d (source count) words))
@@ -501,7 +523,8 @@ module _ (table : ℕ → Assigned) (source : ℕ → ℕ) (used holds_word : �
 
   stmt_lifted : (stmt : TacStmt) → Lifted stmt
   stmt_lifted = stmt_induction Lifted (λ k i below.
-      let lifts = layer_lifts k i (λ t. subst (λ y. AtMost y (table t)) (fold-roll-TacStmt Assigned (assigned_step t) k) (below t)) in
+      let lifts = layer_lifts k i (λ t. subst (λ y. AtMost y (table t)) (fold-roll-TacStmt Assigned
+      (assigned_step t) k) (below t)) in
       let pass_is : passes (roll-TacStmt k) ≡ pass_step table source used holds_word (map-TacStmt _ _ passes k) =
       fold-roll-TacStmt (Option TacStmt) (pass_step table source used holds_word) k in
       record {
@@ -520,19 +543,19 @@ module _ (table : ℕ → Assigned) (source : ℕ → ℕ) (used holds_word : �
       (by (row_read body nothing_ahead) refl)
       (lifts.begins (λ t. nothing_ahead) nothing_ahead over
       (λ t. and_rest (not (row_first (map (reading t) body) nothing_ahead)) _ (assigned_first t))) where
-    lifts : RowLifts body
-    lifts = row_lifts body (everywhere_in Lifted stmt_lifted body) below
+        lifts : RowLifts body
+        lifts = row_lifts body (everywhere_in Lifted stmt_lifted body) below
 
-    none : {test : ℕ → Bool} → false ≡ true → Some_at test
-    none h = absurd (cc h)
+        none : {test : ℕ → Bool} → false ≡ true → Some_at test
+        none h = absurd (cc h)
 
-    over : Over (λ t. nothing_ahead) nothing_ahead
-    over = record { following = λ h. none h; broken = λ h. none h; continued = λ h. none h }
+        over : Over (λ t. nothing_ahead) nothing_ahead
+        over = record { following = λ h. none h; broken = λ h. none h; continued = λ h. none h }
 
-    clash : {B : Type 0} → Some_at (λ t. row_first (map (reading t) body) nothing_ahead) → B
-    clash k = let no : not true ≡ true = sym (ap not k.holds)
-        ∙ and_first (not (row_first (map (reading k.t) body) nothing_ahead)) _ (assigned_first k.t) in absurd (cc no)
+        clash : {B : Type 0} → Some_at (λ t. row_first (map (reading t) body) nothing_ahead) → B
+        clash k = let no : not true ≡ true = sym (ap not k.holds)
+            ∙ and_first (not (row_first (map (reading k.t) body) nothing_ahead)) _ (assigned_first k.t) in absurd (cc no)
 
-    by : (b : Bool) → row_read body nothing_ahead ≡ b → not b ≡ true
-    by true is = clash (lifts.live (λ t. nothing_ahead) nothing_ahead over is)
-    by false is = refl
+        by : (b : Bool) → row_read body nothing_ahead ≡ b → not b ≡ true
+        by true is = clash (lifts.live (λ t. nothing_ahead) nothing_ahead over is)
+        by false is = refl

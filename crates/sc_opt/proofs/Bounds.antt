@@ -1,5 +1,6 @@
 -- A temporary that isn't the function's is named nowhere: nothing reads it and nothing gives it a value.
-use Rattle.std.proofs.Common.{Bool, List, None, Option, Some, [], ap, arith, eqb-true, false, if◌then◌else◌, ltb-true, map}
+use Rattle.std.proofs.Common.{Bool, List, None, Option, Some, [], ap, arith, eqb-true, false, if◌then◌else◌, ltb-true}
+use Rattle.std.proofs.Common.{map}
 use Rattle.std.proofs.Common.{nat_lt, not, refl, subst, sym, true, ℕ, ◌&&◌, ◌++◌, ◌<◌, ◌==◌, ◌||◌, ◌∙◌, ◌∷◌, ◌≡◌, ◌≤◌}
 use Rattle.std.proofs.lemmas.Bool.{and_from}
 use Rattle.std.specs.List.{list_all}
@@ -140,7 +141,8 @@ module _ (temps t : ℕ) (out : temps ≤ t) where
         never = fold-roll-TacStmt Assigned (assigned_step t) k ∙ absent.never;
       })
 
-  pub assigned_nowhere : (body : List TacStmt) → everywhere (names_own_temps temps) body ≡ true → assigned_in t body ≡ Nowhere
+  pub assigned_nowhere : (body : List TacStmt) → everywhere (names_own_temps temps) body ≡ true →
+      assigned_in t body ≡ Nowhere
   assigned_nowhere body h = (row_gone body (everywhere_in Gone stmt_gone body) h).never
 
   pub first_nowhere : (body : List TacStmt) → everywhere (names_own_temps temps) body ≡ true →

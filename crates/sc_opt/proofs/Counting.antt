@@ -25,7 +25,8 @@ is_leaf _ = true
 record Counts (step : TacStmt-F ℕ → ℕ) : Type 0 where
   of_leaf : ℕ
   leaf : (k : TacStmt-F ℕ) → is_leaf k ≡ true → step k ≡ of_leaf
-  fork : (c e : ℕ) (a b x y : List ℕ) → total x ≤ total a → total y ≤ total b → step (tac.If e x y) ≤ step (tac.If c a b)
+  fork : (c e : ℕ) (a b x y : List ℕ) → total x ≤ total a → total y ≤ total b → step (tac.If e x y) ≤ step
+      (tac.If c a b)
   cycle : (a b c x y z : List ℕ) → total x ≤ total a → total y ≤ total b → total z ≤ total c →
       step (tac.Loop x y z) ≤ step (tac.Loop a b c)
 
@@ -107,8 +108,8 @@ module _ (table : ℕ → Assigned) (source : ℕ → ℕ) (used holds_word : �
       number (roll-TacStmt k) ≤ step l
   in_place k l h i = at (number (roll-TacStmt k)) (step l) (rolled k ∙ counts.leaf (map-TacStmt _ _ number k) h)
       (counts.leaf l i) where
-    at : (m n : ℕ) → m ≡ counts.of_leaf → n ≡ counts.of_leaf → m ≤ n
-    at m n e f = omega (arith, e, f)
+        at : (m n : ℕ) → m ≡ counts.of_leaf → n ≡ counts.of_leaf → m ≤ n
+        at m n e f = omega (arith, e, f)
 
   if_kept : (u : Bool) (k : TacStmt-F TacStmt) (l : TacStmt-F ℕ) → is_leaf (map-TacStmt _ _ number k) ≡ true →
       is_leaf l ≡ true → number_left (keep_if u k) ≤ step l

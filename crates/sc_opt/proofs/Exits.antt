@@ -6,7 +6,8 @@ use Rattle.sc_base.proofs.Bools.{and_first, and_rest}
 use Rattle.sc_core.proofs.Induction.{Each, everywhere as everywhere_in}
 use Rattle.sc_core.specs.Meaning.{at_brace}
 use Rattle.sc_core.specs.Prelude.{Arith, Break, Calls, Continue, Exit, Here, Left, Next, Piece, Reached, Return, State}
-use Rattle.sc_core.specs.Prelude.{Stopped, all_do, and_then, choose, closed, computed, follow, in_loop, in_order, is_true, leave}
+use Rattle.sc_core.specs.Prelude.{Stopped, all_do, and_then, choose, closed, computed, follow, in_loop, in_order}
+use Rattle.sc_core.specs.Prelude.{is_true, leave}
 use Rattle.sc_core.specs.Prelude.{elements_allocated, load, loop, rounds, stored, take, turn, turn_of}
 use Rattle.sc_core.specs.declared.value.Value.{Value}
 use Rattle.sc_tac.proofs.Induction.{Inside, stmt_induction}
@@ -55,7 +56,8 @@ module _ (result : Bool) where
       (b : (a : Temps) (s : State) → Ends (body a s)) (x : (a : Temps) (s : State) → Ends (next a s)) where
     ends_rounds : (n : ℕ) (a : Temps) (s : State) → Ends (rounds n head body next a s)
     ends_rounds zero a s = tt
-    ends_rounds (suc n) a s = ends_in_loop (head a s) _ (h a s) (λ a s. reached_then (λ l. Good l.exit) (turn s) _ (λ u s.
+    ends_rounds (suc n) a s = ends_in_loop (head a s) _ (h a s) (λ a s. reached_then (λ l. Good l.exit) (turn s) _
+        (λ u s.
         ends_in_loop (body a s) _ (b a s) (λ a s. ends_in_loop (next a s) _ (x a s) (ends_rounds n))))
 
   module _ (arith : Arith) (here : Here) (C : Calls) where

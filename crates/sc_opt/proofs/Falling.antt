@@ -1,5 +1,6 @@
 -- The pass makes code no heavier, and leaves as it is what doesn't get lighter.
-use Rattle.std.proofs.Common.{Bool, List, None, Option, Some, [], ap, arith, false, if◌then◌else◌, map, not, refl, subst}
+use Rattle.std.proofs.Common.{Bool, List, None, Option, Some, [], ap, arith, false, if◌then◌else◌, map, not, refl}
+use Rattle.std.proofs.Common.{subst}
 use Rattle.std.proofs.Common.{suc, sym, true, zero, ℕ, ◌&&◌, ◌*◌, ◌+◌, ◌<◌, ◌==◌, ◌||◌, ◌∙◌, ◌∷◌, ◌≡◌, ◌≤◌}
 use Rattle.std.proofs.lemmas.Bool.{and_from}
 use Rattle.std.proofs.lemmas.List.{length-map}
@@ -100,23 +101,24 @@ module _ (table : ℕ → Assigned) (source : ℕ → ℕ) (used holds_word : �
   op_falls d o left right (Some c) = if_kept (used d) (tac.Const d c) (op_weight o) 5 _ (rolled (tac.Const d c))
       (light (op_weight o) (op_heavy o)) (some (op_weight o) (op_heavy o))
       (λ u e. absurd (apart (op_weight o) (op_heavy o) e)) where
-    light : (w : ℕ) → 7 ≤ w → 5 ≤ w
-    light w h = omega (arith, h)
+        light : (w : ℕ) → 7 ≤ w → 5 ≤ w
+        light w h = omega (arith, h)
 
-    some : (w : ℕ) → 7 ≤ w → 0 < w
-    some w h = omega (arith, h)
+        some : (w : ℕ) → 7 ≤ w → 0 < w
+        some w h = omega (arith, h)
 
-    apart : (w : ℕ) → 7 ≤ w → 5 ≡ w → ⊥
-    apart w h e = omega (arith, h, e)
+        apart : (w : ℕ) → 7 ≤ w → 5 ≡ w → ⊥
+        apart w h e = omega (arith, h, e)
   op_falls d o left right None = if_kept (used d || not (is_total holds_word o left right))
       (tac.Op d o (source left) (option_map source right)) (op_weight o) (op_weight o) _
-      (rolled (tac.Op d o (source left) (option_map source right))) (same (op_weight o)) (some (op_weight o) (op_heavy o))
+      (rolled (tac.Op d o (source left) (option_map source right))) (same (op_weight o)) (some (op_weight o)
+      (op_heavy o))
       (λ u e. true_left (used d || not (is_total holds_word o left right)) u) where
-    same : (w : ℕ) → w ≤ w
-    same w = omega arith
+        same : (w : ℕ) → w ≤ w
+        same w = omega arith
 
-    some : (w : ℕ) → 7 ≤ w → 0 < w
-    some w h = omega (arith, h)
+        some : (w : ℕ) → 7 ≤ w → 0 < w
+        some w h = omega (arith, h)
 
   args_same : (args : List ℕ) → call_weight (length (map source args)) ≡ call_weight (length args)
   args_same args = ap call_weight (length-map args source)
@@ -125,7 +127,8 @@ module _ (table : ℕ → Assigned) (source : ℕ → ℕ) (used holds_word : �
       Falls (left_weight (pass_step table source used holds_word (map-TacStmt _ _ passes k)))
       (weight_step (map-TacStmt _ _ stmt_weight k))
       (with_parts (is_kept table source used holds_word) (map-TacStmt _ _ left_test k))
-  layer_falls (tac.Const d value) i = if_kept (used d) (tac.Const d value) 5 5 _ (rolled (tac.Const d value)) (omega arith)
+  layer_falls (tac.Const d value) i = if_kept (used d) (tac.Const d value) 5 5 _ (rolled (tac.Const d value))
+      (omega arith)
       (omega arith) (λ u e. true_left (used d) u)
   layer_falls (tac.Copy d from) i = if_kept (not (source d == source from) && used d) (tac.Copy d (source from)) 6 6 _
       (rolled (tac.Copy d (source from))) (omega arith) (omega arith)
@@ -144,16 +147,16 @@ module _ (table : ℕ → Assigned) (source : ℕ → ℕ) (used holds_word : �
       (sym (rolled (tac.If (source cond) (present (map passes a)) (present (map passes b)))))
       (by (now_weight a) (weight a) (now_weight b) (weight b) (all_true (map left_test a)) (all_true (map left_test b))
       (row_falls a i.0) (row_falls b i.1)) where
-    by : (m n p q : ℕ) (x y : Bool) → Falls m n x → Falls p q y → Falls (6 + m + p) (6 + n + q) (x && (y && true))
-    by m n p q x y h k = record {
-      no_more = omega (arith, h.no_more, k.no_more);
-      same = λ e. and_from x (y && true) (h.same (one e)) (true_left y (k.same (other e)));
-    } where
-      one : 6 + m + p ≡ 6 + n + q → m ≡ n
-      one e = omega (arith, e, h.no_more, k.no_more)
+        by : (m n p q : ℕ) (x y : Bool) → Falls m n x → Falls p q y → Falls (6 + m + p) (6 + n + q) (x && (y && true))
+        by m n p q x y h k = record {
+          no_more = omega (arith, h.no_more, k.no_more);
+          same = λ e. and_from x (y && true) (h.same (one e)) (true_left y (k.same (other e)));
+        } where
+          one : 6 + m + p ≡ 6 + n + q → m ≡ n
+          one e = omega (arith, e, h.no_more, k.no_more)
 
-      other : 6 + m + p ≡ 6 + n + q → p ≡ q
-      other e = omega (arith, e, h.no_more, k.no_more)
+          other : 6 + m + p ≡ 6 + n + q → p ≡ q
+          other e = omega (arith, e, h.no_more, k.no_more)
   layer_falls (tac.Loop a b c) i = subst
       (λ n. Falls n (2 + weight a + weight b + weight c)
       (all_true (map left_test a) && (all_true (map left_test b) && (all_true (map left_test c) && true))))
@@ -161,20 +164,20 @@ module _ (table : ℕ → Assigned) (source : ℕ → ℕ) (used holds_word : �
       (by (now_weight a) (weight a) (now_weight b) (weight b) (now_weight c) (weight c) (all_true (map left_test a))
       (all_true (map left_test b)) (all_true (map left_test c)) (row_falls a i.0) (row_falls b i.1)
       (row_falls c i.2)) where
-    by : (m n p q r v : ℕ) (x y z : Bool) → Falls m n x → Falls p q y → Falls r v z →
-        Falls (2 + m + p + r) (2 + n + q + v) (x && (y && (z && true)))
-    by m n p q r v x y z h k l = record {
-      no_more = omega (arith, h.no_more, k.no_more, l.no_more);
-      same = λ e. and_from x _ (h.same (one e)) (and_from y _ (k.same (other e)) (true_left z (l.same (last e))));
-    } where
-      one : 2 + m + p + r ≡ 2 + n + q + v → m ≡ n
-      one e = omega (arith, e, h.no_more, k.no_more, l.no_more)
+        by : (m n p q r v : ℕ) (x y z : Bool) → Falls m n x → Falls p q y → Falls r v z →
+            Falls (2 + m + p + r) (2 + n + q + v) (x && (y && (z && true)))
+        by m n p q r v x y z h k l = record {
+          no_more = omega (arith, h.no_more, k.no_more, l.no_more);
+          same = λ e. and_from x _ (h.same (one e)) (and_from y _ (k.same (other e)) (true_left z (l.same (last e))));
+        } where
+          one : 2 + m + p + r ≡ 2 + n + q + v → m ≡ n
+          one e = omega (arith, e, h.no_more, k.no_more, l.no_more)
 
-      other : 2 + m + p + r ≡ 2 + n + q + v → p ≡ q
-      other e = omega (arith, e, h.no_more, k.no_more, l.no_more)
+          other : 2 + m + p + r ≡ 2 + n + q + v → p ≡ q
+          other e = omega (arith, e, h.no_more, k.no_more, l.no_more)
 
-      last : 2 + m + p + r ≡ 2 + n + q + v → r ≡ v
-      last e = omega (arith, e, h.no_more, k.no_more, l.no_more)
+          last : 2 + m + p + r ≡ 2 + n + q + v → r ≡ v
+          last e = omega (arith, e, h.no_more, k.no_more, l.no_more)
   layer_falls tac.Break i = stays tac.Break 1 _ (rolled tac.Break) refl
   layer_falls tac.Continue i = stays tac.Continue 1 _ (rolled tac.Continue) refl
   layer_falls (tac.CallOwn dest function args) i = stays (tac.CallOwn dest function (map source args))

@@ -22,7 +22,8 @@ use Rattle.sc_opt.proofs.Values.{Fits}
 
 -- what an operator gives of constants doesn't depend on blocks
 between_steady : (blocks : Blocks) (o : BinaryOp) (cells : ℕ) (c d : Constant) →
-    between blocks o cells (constant_value c) (constant_value d) ≡ between [] o cells (constant_value c) (constant_value d)
+    between blocks o cells (constant_value c) (constant_value d) ≡ between [] o cells (constant_value c)
+    (constant_value d)
 between_steady blocks op.Equal cells (constant.Word a) d = refl
 between_steady blocks op.Equal cells constant.Null (constant.Word b) = refl
 between_steady blocks op.Equal cells constant.Null constant.Null = refl

@@ -13,7 +13,8 @@ use Rattle.sc_tac.specs.declared.stmt.TacStmt.{TacStmt, TacStmt-F, fold-TacStmt,
 use Rattle.sc_tac.specs.declared.stmt.TacStmt.{roll-TacStmt}
 use Rattle.sc_tac.specs.declared.stmt.TacStmt.TheOpen as tac
 use Rattle.sc_opt.specs.Pass.{all_joined, copies_one, folded, assigned, assigned_in, assigned_step}
-use Rattle.sc_opt.specs.Pass.{is_lean, is_kept, is_none, is_once, is_read, is_total, always_word, lean, reads_temp, one_pass}
+use Rattle.sc_opt.specs.Pass.{is_lean, is_kept, is_none, is_once, is_read, is_total, always_word, lean, reads_temp}
+use Rattle.sc_opt.specs.Pass.{one_pass}
 use Rattle.sc_opt.specs.Pass.{reads_here, is_read_by, reads_some, reads_unless, reads_within, copy_source, table_of}
 use Rattle.sc_opt.proofs.Joined.{AtMost, below_first, below_rest}
 use Rattle.sc_opt.proofs.Falling.{all_left}
@@ -115,7 +116,8 @@ module _ (table : ℕ → Assigned) (source : ℕ → ℕ) (used reads holds_wor
   row_lean [] each below h = refl
   row_lean (s ∷ rest) each below h = and_from (leans s) _
       (each.0 (λ t. below_first (assigned t s) (assigned_in t rest) (table t) (below t)) (and_first (left s) _ h))
-      (row_lean rest each.1 (λ t. below_rest (assigned t s) (assigned_in t rest) (table t) (below t)) (and_rest (left s) _ h))
+      (row_lean rest each.1 (λ t. below_rest (assigned t s) (assigned_in t rest) (table t) (below t)) (and_rest
+      (left s) _ h))
 
   with_true : (b c : Bool) → (b ≡ true → c ≡ true) → (b && true) ≡ true → (c && true) ≡ true
   with_true b c f h = and_from c true (f (and_first b true h)) refl
@@ -125,22 +127,24 @@ module _ (table : ℕ → Assigned) (source : ℕ → ℕ) (used reads holds_wor
   or_used false r t f h = or_right r t h
 
   copy_lean : (d from : ℕ) → AtMost (if d == d then ByCopy from else Nowhere) (table d) →
-      (not (source d == source from) && used d) ≡ true → (not (is_once (table d) && is_once (table from)) && reads d) ≡ true
+      (not (source d == source from) && used d) ≡ true → (not (is_once (table d) && is_once
+      (table from)) && reads d) ≡ true
   copy_lean d from below h = and_from (not (is_once (table d) && is_once (table from))) _
-      (by (is_once (table d)) refl (is_once (table from)) refl) (is_used d (and_rest (not (source d == source from)) _ h)) where
-    low : AtMost (ByCopy from) (table d)
-    low = subst (λ y. AtMost y (table d)) (ap (λ b. if b then ByCopy from else Nowhere) (eq-eqb d d refl)) below
+      (by (is_once (table d)) refl (is_once (table from)) refl) (is_used d (and_rest (not
+      (source d == source from)) _ h)) where
+        low : AtMost (ByCopy from) (table d)
+        low = subst (λ y. AtMost y (table d)) (ap (λ b. if b then ByCopy from else Nowhere) (eq-eqb d d refl)) below
 
-    clash : is_once (table d) ≡ true → is_once (table from) ≡ true → AtMost (ByCopy from) (table d) → ⊥
-    clash one two (inl n) = absurd (cc n)
-    clash one two (inr (inl same)) = let no : true ≡ false = sym two ∙ (ap (copies_one table) same ∙ no_copy d) in
-        absurd (cc no)
-    clash one two (inr (inr often)) = let no : false ≡ true = sym (ap is_once often) ∙ one in absurd (cc no)
+        clash : is_once (table d) ≡ true → is_once (table from) ≡ true → AtMost (ByCopy from) (table d) → ⊥
+        clash one two (inl n) = absurd (cc n)
+        clash one two (inr (inl same)) = let no : true ≡ false = sym two ∙ (ap (copies_one table) same ∙ no_copy d) in
+            absurd (cc no)
+        clash one two (inr (inr often)) = let no : false ≡ true = sym (ap is_once often) ∙ one in absurd (cc no)
 
-    by : (a : Bool) → is_once (table d) ≡ a → (b : Bool) → is_once (table from) ≡ b → not (a && b) ≡ true
-    by false one b two = refl
-    by true one false two = refl
-    by true one true two = absurd (clash one two low)
+        by : (a : Bool) → is_once (table d) ≡ a → (b : Bool) → is_once (table from) ≡ b → not (a && b) ≡ true
+        by false one b two = refl
+        by true one false two = refl
+        by true one true two = absurd (clash one two low)
 
   layer_lean : (k : TacStmt-F TacStmt) → Inside Leaner k →
       ((t : ℕ) → AtMost (assigned_step t (map-TacStmt _ _ (assigned t) k)) (table t)) →
@@ -169,12 +173,15 @@ module _ (table : ℕ → Assigned) (source : ℕ → ℕ) (used reads holds_wor
       in
       let later = and_rest (all_true (map left a)) _ inside in
       and_from (all_true (map leans a)) _
-      (row_lean a i.0 (λ t. below_first (assigned_in t a) _ (table t) (below t)) (and_first (all_true (map left a)) _ inside))
+      (row_lean a i.0 (λ t. below_first (assigned_in t a) _ (table t) (below t)) (and_first (all_true
+      (map left a)) _ inside))
       (and_from (all_true (map leans b)) _
-      (row_lean b i.1 (λ t. below_first (assigned_in t b) (assigned_in t c) (table t) (below_rest (assigned_in t a) _ (table t) (below t)))
+      (row_lean b i.1 (λ t. below_first (assigned_in t b) (assigned_in t c) (table t) (below_rest (assigned_in t a) _
+      (table t) (below t)))
       (and_first (all_true (map left b)) _ later))
       (and_from (all_true (map leans c)) true
-      (row_lean c i.2 (λ t. below_rest (assigned_in t b) (assigned_in t c) (table t) (below_rest (assigned_in t a) _ (table t) (below t)))
+      (row_lean c i.2 (λ t. below_rest (assigned_in t b) (assigned_in t c) (table t) (below_rest (assigned_in t a) _
+      (table t) (below t)))
       (and_first (all_true (map left c)) true (and_rest (all_true (map left b)) _ later))) refl))
   layer_lean tac.Break i below h = refl
   layer_lean tac.Continue i below h = refl
@@ -187,12 +194,14 @@ module _ (table : ℕ → Assigned) (source : ℕ → ℕ) (used reads holds_wor
   layer_lean (tac.Return value) i below h = refl
 
   stmt_lean : (stmt : TacStmt) → Leaner stmt
-  stmt_lean = stmt_induction Leaner (λ k i below h. fold-roll-TacStmt Bool (with_parts (is_lean table reads holds_word)) k
+  stmt_lean = stmt_induction Leaner (λ k i below h. fold-roll-TacStmt Bool (with_parts
+      (is_lean table reads holds_word)) k
       ∙ layer_lean k i (λ t. subst (λ y. AtMost y (table t)) (fold-roll-TacStmt Assigned (assigned_step t) k) (below t))
       (sym (fold-roll-TacStmt Bool (with_parts (is_kept table source used holds_word)) k) ∙ h))
 
   pub left_is_lean : (body : List TacStmt) → ((t : ℕ) → AtMost (assigned_in t body) (table t)) →
-      everywhere (is_kept table source used holds_word) body ≡ true → everywhere (is_lean table reads holds_word) body ≡ true
+      everywhere (is_kept table source used holds_word) body ≡ true → everywhere
+      (is_lean table reads holds_word) body ≡ true
   left_is_lean body below h = row_lean body (everywhere_in Leaner stmt_lean body) below h
 
 -- a pass that changes no weight was not needed
@@ -207,4 +216,5 @@ is_lean_then body bound above same =
     let sourced = all_sourced table used holds_word in
     left_is_lean table source used (is_read_by body) holds_word
     (λ x h. used_is_read table source (at_home table used holds_word sourced body (λ t. refl) left) x body h)
-    (no_copies table used holds_word sourced body (λ t. refl) left bound above (lower table used holds_word)) body (λ t. inr (inl refl)) left
+    (no_copies table used holds_word sourced body (λ t. refl) left bound above (lower table used holds_word)) body
+    (λ t. inr (inl refl)) left

@@ -55,7 +55,8 @@ module _ (test : TacStmt-F Bool → Bool) (t : ℕ) where
 
   layer_finds : (k : TacStmt-F TacStmt) → Inside Finds k → with_parts test (map-TacStmt _ _ holds k) ≡ true →
       Found (assigned_step t (map-TacStmt _ _ (assigned t) k))
-  layer_finds (tac.Const d value) i h = constant_found d value (and_first (test (tac.Const d value)) true h) (d == t) refl
+  layer_finds (tac.Const d value) i h = constant_found d value (and_first (test (tac.Const d value)) true h)
+      (d == t) refl
   layer_finds (tac.Copy d from) i h = copy_found d from (and_first (test (tac.Copy d from)) true h) (d == t) refl
   layer_finds (tac.Op d o left right) i h = otherwise_found (d == t || false)
   layer_finds (tac.ObjectPlace d object) i h = otherwise_found (d == t || false)

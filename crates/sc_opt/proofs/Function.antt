@@ -24,13 +24,18 @@ use Rattle.sc_opt.proofs.Values.{Fits}
 use Rattle.sc_opt.specs.declared.facts.Assigned.{Assigned}
 
 -- what a call sees of two pieces that follow
-module _ (table : ℕ → Assigned) (source : ℕ → ℕ) (used holds_word : ℕ → Bool) (result is_main : Bool) (here : Here) where
+module _ (table : ℕ → Assigned) (source : ℕ → ℕ) (used holds_word : ℕ → Bool) (result is_main : Bool)
+    (here : Here) where
   abbrev closing : Left Temps → State → Piece (Option Value)
   closing left s = closed left.exit result is_main 0 here s
 
   closes : (g : Temps) (assignments : ℕ → Assigned) (o p : Piece (Left Temps)) →
-      Related table source used holds_word nothing_live g assignments o p → PiecesAgree (and_then o closing) (and_then p closing)
-  closes g assignments (Reached l s) p m = record { same = sym (ap (λ x. piece_without_line (and_then x closing)) m.is) }
+      Related table source used holds_word nothing_live g assignments o p → PiecesAgree (and_then o closing)
+      (and_then p closing)
+  closes g assignments (Reached l s) p m = record {
+    same = sym (ap (λ x. piece_without_line
+        (and_then x closing)) m.is);
+  }
   closes g assignments (Stopped end s) p m = record {
     same = ap (λ e. Stopped e s) m.same ∙ sym (ap (λ x. piece_without_line (and_then x closing)) m.is);
   }
@@ -44,15 +49,18 @@ module _ (arith : Arith) (fits : Fits arith) (f : TacFnTree) (gives : CallTarget
   pub function_kept : (here : Here) (C D : Calls) → CallsAgree C D →
       ((target : CallTarget) → gives target ≡ true → (args : List Value) (s t : State) (v : Option Value) →
       C here.comp target args s ≡ Reached v t → is_some v ≡ true) → (s : State) →
-      PiecesAgree ((code_function arith f).does C here s) ((code_function arith (changed_function one_pass f)).does D here s)
+      PiecesAgree ((code_function arith f).does C here s) ((code_function arith
+      (changed_function one_pass f)).does D here s)
   function_kept here C D agree giving s =
       let table = table_of f.body in
       let source = copy_source table in
       let used = is_read table source f.body in
       let holds_word = always_word f.body in
-      closes table source used holds_word f.result _ here no_temps (λ t. table t) (code_does arith here C f.body no_temps s)
+      closes table source used holds_word f.result _ here no_temps (λ t. table t)
+      (code_does arith here C f.body no_temps s)
       (code_does arith here D (one_pass f.body) no_temps s)
-      (code_kept table source used holds_word (all_sourced table used holds_word) arith fits here C D gives (agree here.comp) giving f.body
+      (code_kept table source used holds_word (all_sourced table used holds_word) arith fits here C D gives
+      (agree here.comp) giving f.body
       nothing_live no_temps no_temps no_temps s (record {
         below = λ t. inr (inl refl);
         words = λ t w. w;

@@ -1,6 +1,8 @@
 -- A function keeps the rules of functions where its code is passed once.
-use Rattle.std.proofs.Common.{Bool, List, None, Option, Some, [], ap, arith, false, inl, inr, leb-true, ltb-false, ltb-true}
-use Rattle.std.proofs.Common.{eqb-true, map, nat_lt, not, refl, subst, suc, sym, true, zero, ℕ, ◌&&◌, ◌*◌, ◌+◌, ◌<◌, ◌==◌, ◌∙◌, ◌≡◌}
+use Rattle.std.proofs.Common.{Bool, List, None, Option, Some, [], ap, arith, false, inl, inr, leb-true, ltb-false}
+use Rattle.std.proofs.Common.{ltb-true}
+use Rattle.std.proofs.Common.{eqb-true, map, nat_lt, not, refl, subst, suc, sym, true, zero, ℕ, ◌&&◌, ◌*◌, ◌+◌, ◌<◌}
+use Rattle.std.proofs.Common.{◌==◌, ◌∙◌, ◌≡◌}
 use Rattle.std.proofs.Common.{◌≤◌, ◌⊎◌, length}
 use Rattle.std.proofs.lemmas.Bool.{and_from}
 use Rattle.sc_base.proofs.Bools.{and_first, and_rest}
@@ -21,7 +23,8 @@ use Rattle.sc_opt.proofs.Joined.{not_same}
 use Rattle.sc_opt.proofs.Falling.{no_heavier}
 use Rattle.sc_opt.proofs.Found.{Found, found_in}
 use Rattle.sc_opt.proofs.Inside.{sources_inside}
-use Rattle.sc_opt.proofs.Instances.{arguments_stay, elements_stay, objects_stay, operands_stay, results_stay, temps_stay}
+use Rattle.sc_opt.proofs.Instances.{arguments_stay, elements_stay, objects_stay, operands_stay, results_stay}
+use Rattle.sc_opt.proofs.Instances.{temps_stay}
 use Rattle.sc_opt.proofs.Instances.{unused_stay, words_stay}
 use Rattle.sc_opt.proofs.Rules.{Stays, passed_keeps}
 use Rattle.sc_opt.proofs.Copies.{all_sourced}
@@ -37,13 +40,13 @@ one_of_all zero body h t less = absurd (none t less) where
   none t less = omega (arith, less)
 one_of_all (suc n) body h t less =
     by (t == n) refl (one_of_all n body (and_rest (is_assigned_first n body) _ h) t) where
-  strict : (t ≡ n → ⊥) → t < n
-  strict other = omega (arith, less, other)
+      strict : (t ≡ n → ⊥) → t < n
+      strict other = omega (arith, less, other)
 
-  by : (b : Bool) → (t == n) ≡ b → (t < n → is_assigned_first t body ≡ true) → is_assigned_first t body ≡ true
-  by true is rest = subst (λ u. is_assigned_first u body ≡ true) (sym (eqb-true t n is))
-      (and_first (is_assigned_first n body) _ h)
-  by false is rest = rest (strict (not_same t n is))
+      by : (b : Bool) → (t == n) ≡ b → (t < n → is_assigned_first t body ≡ true) → is_assigned_first t body ≡ true
+      by true is rest = subst (λ u. is_assigned_first u body ≡ true) (sym (eqb-true t n is))
+          (and_first (is_assigned_first n body) _ h)
+      by false is rest = rest (strict (not_same t n is))
 
 -- each temporary, where those of the function are, and its code names no other
 pub each_first : (temps : ℕ) (body : List TacStmt) → everywhere (names_own_temps temps) body ≡ true →
@@ -114,6 +117,6 @@ pass_keeps_rules f rules =
       assigned_first = from_each f.temps (one_pass f.body)
           (first_after f.body (each_first f.temps f.body rules.own_temps rules.assigned_first));
     } where
-  lighter : (before after : ℕ) → after ≤ before → entry_weight f.params + before < instrs_a_node * f.nodes →
-      entry_weight f.params + after < instrs_a_node * f.nodes
-  lighter before after h k = omega (arith, h, k)
+      lighter : (before after : ℕ) → after ≤ before → entry_weight f.params + before < instrs_a_node * f.nodes →
+          entry_weight f.params + after < instrs_a_node * f.nodes
+      lighter before after h k = omega (arith, h, k)

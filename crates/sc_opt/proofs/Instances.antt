@@ -6,7 +6,8 @@ use Rattle.std.proofs.lemmas.Bool.{and_from}
 use Rattle.sc_event.specs.Prelude.{export_at}
 use Rattle.sc_event.specs.declared.interface.Interfaces.{Interfaces}
 use Rattle.sc_core.specs.declared.expr.CallTarget.{CallTarget}
-use Rattle.sc_tac.specs.Prelude.{calls_exports, calls_imports, calls_own, cross_call_fits, has_words, is_machine_word, is_one}
+use Rattle.sc_tac.specs.Prelude.{calls_exports, calls_imports, calls_own, cross_call_fits, has_words, is_machine_word}
+use Rattle.sc_tac.specs.Prelude.{is_one}
 use Rattle.sc_tac.specs.Prelude.{names_own_global, own_call_fits}
 use Rattle.sc_tac.specs.declared.program.TacSection.{TacSection}
 use Rattle.sc_tac.specs.declared.stmt.Constant.{Constant}
@@ -54,7 +55,8 @@ module _ (table : ℕ → Assigned) (source : ℕ → ℕ) (used holds_word : �
     returned = λ value h. h;
   }
 
-  pub objects_stay : (objects : ℕ) → Stays table source used holds_word (names_own_object objects) (names_own_object objects)
+  pub objects_stay : (objects : ℕ) → Stays table source used holds_word (names_own_object objects)
+      (names_own_object objects)
   objects_stay objects = record {
     untouched = λ k n h. h;
     copied = λ d from n h. h;
@@ -108,7 +110,8 @@ module _ (table : ℕ → Assigned) (source : ℕ → ℕ) (used holds_word : �
     returned = λ value h. h;
   }
 
-  pub results_stay : (result : Bool) → Stays table source used holds_word (returns_result result) (returns_result result)
+  pub results_stay : (result : Bool) → Stays table source used holds_word (returns_result result)
+      (returns_result result)
   results_stay result = record {
     untouched = λ k n h. h;
     copied = λ d from n h. h;
@@ -187,7 +190,8 @@ module _ (table : ℕ → Assigned) (source : ℕ → ℕ) (used holds_word : �
     }
 
     pub cross_calls_stay :
-        Stays table source used holds_word (calls_exports interfaces comp section) (calls_exports interfaces comp section)
+        Stays table source used holds_word (calls_exports interfaces comp section)
+        (calls_exports interfaces comp section)
     cross_calls_stay = record {
       untouched = λ k n h. h;
       copied = λ d from n h. refl;
@@ -207,7 +211,8 @@ module _ (table : ℕ → Assigned) (source : ℕ → ℕ) (used holds_word : �
     }
 
     pub imports_stay :
-        Stays table source used holds_word (calls_imports interfaces comp section) (calls_imports interfaces comp section)
+        Stays table source used holds_word (calls_imports interfaces comp section)
+        (calls_imports interfaces comp section)
     imports_stay = record {
       untouched = λ k n h. h;
       copied = λ d from n h. refl;

@@ -1,5 +1,6 @@
 -- Functions and programs as the code builds them.
-use Rattle.std.proofs.Common.{Bool, List, ap, arith, eq-eqb, eqb-true, false, if◌then◌else◌, map, refl, subst, sym, true, ℕ}
+use Rattle.std.proofs.Common.{Bool, List, ap, arith, eq-eqb, eqb-true, false, if◌then◌else◌, map, refl, subst, sym}
+use Rattle.std.proofs.Common.{true, ℕ}
 use Rattle.std.proofs.Common.{◌+◌, ◌<◌, ◌==◌, ◌∙◌, ◌≡◌, ◌≤◌}
 use Rattle.sc_event.specs.declared.interface.Interfaces.{Interfaces}
 use Rattle.sc_tac.specs.Prelude.{IsFunction, IsProgram, entry_weight, weight}
@@ -7,7 +8,8 @@ use Rattle.sc_tac.specs.declared.function.TacFnTree.{TacFnTree}
 use Rattle.sc_tac.specs.declared.program.TacSection.{TacSection}
 use Rattle.sc_tac.specs.declared.program.TacTree.{TacTree}
 use Rattle.sc_tac.specs.declared.stmt.TacStmt.{TacStmt}
-use Rattle.sc_opt.specs.Optimised.{changed_function, optimised, optimised_function, optimised_program, optimised_section}
+use Rattle.sc_opt.specs.Optimised.{changed_function, optimised, optimised_function, optimised_program}
+use Rattle.sc_opt.specs.Optimised.{optimised_section}
 use Rattle.sc_opt.specs.Pass.{one_pass}
 use Rattle.sc_opt.specs.Tables.{Tell, passed_by}
 use Rattle.sc_opt.specs.declared.pass.Tables.{Tables}
@@ -25,8 +27,11 @@ module _ (f tree : TacFnTree) (is : tree ≡ f) (rules : IsFunction f) (tables :
   made = record tree { objects = objects; body = body }
 
   pub function_made : made ≡ changed_function one_pass f
-  function_made = (λ i. record tree { objects = same_objects i; body = (same_body ∙ passed_is tree.temps tree.body
-      (subst IsFunction (sym is) rules).own_temps tables tell) i })
+  function_made = (λ i. record tree {
+    objects = same_objects i;
+    body = (same_body ∙ passed_is tree.temps tree.body
+        (subst IsFunction (sym is) rules).own_temps tables tell) i;
+  })
       ∙ ap (changed_function one_pass) is
 
   pub made_keeps_rules : IsFunction made
@@ -46,8 +51,8 @@ same_test e a b = by (a == b) refl where
   apart h = omega (arith, h)
 
   other : (b' : Bool) → ((e + a) == (e + b)) ≡ b' → (a ≡ b → ⊥) → b' ≡ false
-  other true is no = absurd (no (apart (eqb-true (e + a) (e + b) is)))
-  other false is no = refl
+  other true is differ = absurd (differ (apart (eqb-true (e + a) (e + b) is)))
+  other false is differ = refl
 
   by : (b' : Bool) → (a == b) ≡ b' → ((e + a) == (e + b)) ≡ b'
   by true is = eq-eqb (e + a) (e + b) (ap (λ n. e + n) (eqb-true a b is))
@@ -62,37 +67,42 @@ first_pass f passed before after is old new =
     ∙ ap (λ b. if b then changed_function one_pass f else optimised_function (changed_function one_pass f))
     (sym (same_test (entry_weight f.params) (weight (one_pass f.body)) (weight f.body)))
     ∙ (λ i. rest_of (sym old i) (weight_of (sym is i)) (sym is i)) ∙ (λ i. rest_of before (sym new i) passed) where
-  split : (b : Bool) → ◌≡◌ {A = TacFnTree} (record f { body = if b then one_pass f.body else optimised (one_pass f.body) })
-      (if b then changed_function one_pass f else optimised_function (changed_function one_pass f))
-  split true = refl
-  split false = refl
+      split : (b : Bool) → ◌≡◌ {A = TacFnTree} (record f {
+        body = if b then one_pass f.body else optimised
+            (one_pass f.body);
+      })
+          (if b then changed_function one_pass f else optimised_function (changed_function one_pass f))
+      split true = refl
+      split false = refl
 
 -- and each later one
-pub later_pass : (f passed next : TacFnTree) (before after last : ℕ) → optimised_function f ≡ rest_of before after passed →
+pub later_pass : (f passed next : TacFnTree) (before after last : ℕ) →
+    optimised_function f ≡ rest_of before after passed →
     after < before → next ≡ changed_function one_pass passed → after ≡ weight_of passed → last ≡ weight_of next →
     optimised_function f ≡ rest_of after last next
 later_pass f passed next before after last made less is old new =
     made ∙ by (after == before) refl ∙ first_pass passed next after last is old new where
-  apart : after ≡ before → ⊥
-  apart same = omega (arith, same, less)
+      apart : after ≡ before → ⊥
+      apart same = omega (arith, same, less)
 
-  by : (b : Bool) → (after == before) ≡ b → (if b then passed else optimised_function passed) ≡ optimised_function passed
-  by true same = absurd (apart (eqb-true after before same))
-  by false same = refl
+      by : (b : Bool) → (after == before) ≡ b → (if b then passed else optimised_function passed) ≡ optimised_function
+          passed
+      by true same = absurd (apart (eqb-true after before same))
+      by false same = refl
 
 pub no_more : (f passed : TacFnTree) (before after : ℕ) → optimised_function f ≡ rest_of before after passed →
     before ≤ after → after ≤ before → passed ≡ optimised_function f
 no_more f passed before after made h k = sym (made
     ∙ ap (λ b. if b then passed else optimised_function passed) (eq-eqb after before same)) where
-  same : after ≡ before
-  same = omega (arith, h, k)
+      same : after ≡ before
+      same = omega (arith, h, k)
 
 pub fewer : (f passed : TacFnTree) (before after : ℕ) → passed ≡ changed_function one_pass f → before ≡ weight_of f →
     after ≡ weight_of passed → after ≤ before
 fewer f passed before after is old new = at (weight (one_pass f.body)) (weight f.body) (entry_weight f.params)
     (no_heavier_pass f.body) (new ∙ ap weight_of is) old where
-  at : (a b e : ℕ) → a ≤ b → after ≡ e + a → before ≡ e + b → after ≤ before
-  at a b e h new old = omega (arith, h, new, old)
+      at : (a b e : ℕ) → a ≤ b → after ≡ e + a → before ≡ e + b → after ≤ before
+      at a b e h new old = omega (arith, h, new, old)
 
 -- THE PROGRAM
 pub program_made : (program tree : TacTree) → tree ≡ program → (interfaces : Interfaces) (sections : List TacSection) →

@@ -1,5 +1,6 @@
 -- What the pass makes of statements, as the code builds it.
-use Rattle.std.proofs.Common.{Bool, List, None, Option, Some, [], ap, ap₂, false, if◌then◌else◌, map, not, refl, sym, true}
+use Rattle.std.proofs.Common.{Bool, List, None, Option, Some, [], ap, ap₂, false, if◌then◌else◌, map, not, refl, sym}
+use Rattle.std.proofs.Common.{true}
 use Rattle.std.proofs.Common.{append_assoc, drop, get_or, length, ◌+◌, ◌<◌}
 use Rattle.std.proofs.Common.{ℕ, ◌&&◌, ◌++◌, ◌==◌, ◌||◌, ◌∙◌, ◌∷◌, ◌≡◌}
 use Rattle.std.specs.Option.{option_map}
@@ -150,7 +151,8 @@ module _ (tables : Tables) where
   one_more (Some s) rest = refl
 
   pub row_stepped : (items list : List TacStmt) (i : ℕ) (stmt : TacStmt) (whole made : List TacStmt)
-      (kept : Option TacStmt) → items ≡ list → i < length items → stmt ≡ get_or items i stmt → made ++ passed_by tables (drop i list) ≡ whole →
+      (kept : Option TacStmt) → items ≡ list → i < length items → stmt ≡ get_or items i stmt →
+      made ++ passed_by tables (drop i list) ≡ whole →
       kept ≡ pass_by tables stmt →
       (made ++ present (kept ∷ [])) ++ passed_by tables (drop (i + 1) list) ≡ whole
   row_stepped items list i stmt whole made kept same less is h k =

@@ -1,5 +1,6 @@
 -- The marks of what is read, statement by statement.
-use Rattle.std.proofs.Common.{Bool, List, None, Option, Some, [], ap, ap₂, false, if◌then◌else◌, map, not, refl, slice_get}
+use Rattle.std.proofs.Common.{Bool, List, None, Option, Some, [], ap, ap₂, false, if◌then◌else◌, map, not, refl}
+use Rattle.std.proofs.Common.{slice_get}
 use Rattle.std.proofs.Common.{drop, get_or, length, subst, ◌+◌, ◌<◌, ◌≤◌}
 use Rattle.std.proofs.Common.{sym, true, ℕ, ◌&&◌, ◌==◌, ◌||◌, ◌∙◌, ◌∷◌, ◌≡◌}
 use Rattle.sc_tac.specs.Prelude.{one_or_none, some_hold}
@@ -58,7 +59,8 @@ module _ (table : ℕ → Assigned) (source : ℕ → ℕ) where
   -- EACH KIND
   by_layer : (stmt : TacStmt) (layer : TacStmt-F TacStmt) (a b : List Bool) → roll-TacStmt layer ≡ stmt →
       ((x : ℕ) → slice_get b x ≡ marked
-      (reads_within table source x (map-TacStmt _ _ (reads_stmt table source x) layer)) (slice_get a x)) → Marks stmt a b
+      (reads_within table source x (map-TacStmt _ _ (reads_stmt table source x) layer)) (slice_get a x)) →
+      Marks stmt a b
   by_layer stmt layer a b is h = record {
     at = λ x. h x ∙ ap (λ r. marked r (slice_get a x))
         (sym (fold-roll-TacStmt Bool (reads_within table source x) layer) ∙ ap (reads_stmt table source x) is);
@@ -94,7 +96,8 @@ module _ (table : ℕ → Assigned) (source : ℕ → ℕ) where
         (emit.rolls-Op d o left right ∙ sym is)
         (λ x. reads_unless source (folded table o left right) x (left ∷ one_or_none right)) (λ x. refl) h
 
-    pub load_marked : (d place : ℕ) (pointer : Bool) → stmt ≡ emit.Load d place pointer → ReadsOne place → Marks stmt a b
+    pub load_marked : (d place : ℕ) (pointer : Bool) → stmt ≡ emit.Load d place pointer → ReadsOne place →
+        Marks stmt a b
     load_marked d place pointer is h = plain_marked stmt (tac.Load d place pointer) a b
         (emit.rolls-Load d place pointer ∙ sym is) (λ x. reads_some source x (place ∷ [])) (λ x. refl)
         (one_read place h)

@@ -1,5 +1,6 @@
 -- The table of facts, statement by statement.
-use Rattle.std.proofs.Common.{Bool, List, None, Option, Some, [], ap, ap₂, false, if◌then◌else◌, map, not, refl, slice_get}
+use Rattle.std.proofs.Common.{Bool, List, None, Option, Some, [], ap, ap₂, false, if◌then◌else◌, map, not, refl}
+use Rattle.std.proofs.Common.{slice_get}
 use Rattle.std.proofs.Common.{drop, get_or, length, subst, ◌+◌, ◌<◌, ◌≤◌}
 use Rattle.std.proofs.Common.{sym, true, ℕ, ◌&&◌, ◌==◌, ◌||◌, ◌∙◌, ◌∷◌, ◌≡◌}
 use Rattle.std.specs.Option.{option_map}
@@ -70,7 +71,8 @@ notes_none table = record { at = λ t. sym (no_fact (slice_get table t)) }
 pub notes_next : (stmt : TacStmt) (rest : List TacStmt) (a b c : List Facts) → NotesStmt stmt a b → NotesAll rest b c →
     NotesAll (stmt ∷ rest) a c
 notes_next stmt rest a b c first more = record {
-  at = λ t. more.at t ∙ ap (option_map (with_fact (assigned_in t rest) (everywhere (assigns_words t) rest))) (first.at t)
+  at = λ t. more.at t ∙ ap (option_map (with_fact (assigned_in t rest) (everywhere (assigns_words t) rest)))
+      (first.at t)
       ∙ fact_twice (assigned t stmt) (assigned_in t rest) (words_alone t stmt) (everywhere (assigns_words t) rest)
       (slice_get a t);
 }
@@ -118,12 +120,13 @@ module _ (stmt : TacStmt) (a b : List Facts) where
   copy_noted d from is h = by_layer stmt (tac.Copy d from) a b (emit.rolls-Copy d from ∙ sym is) (λ t.
       h t ∙ one_fact (d == t) (ByCopy from) false (slice_get a t)
       ∙ ap (λ w. option_map (with_fact (if d == t then ByCopy from else Nowhere) w) (slice_get a t)) (words t)) where
-    words : (t : ℕ) → (not (d == t) || false) ≡ (not (d == t || false) && true)
-    words t = or_false (not (d == t)) ∙ ap not (sym (or_false (d == t))) ∙ sym (and_true (not (d == t || false)))
+        words : (t : ℕ) → (not (d == t) || false) ≡ (not (d == t || false) && true)
+        words t = or_false (not (d == t)) ∙ ap not (sym (or_false (d == t))) ∙ sym (and_true (not (d == t || false)))
 
   -- assigned otherwise, as the test of words of the statement says
   otherwise_noted : (d : ℕ) (word : Bool) (layer : TacStmt-F TacStmt) → roll-TacStmt layer ≡ stmt →
-      ((t : ℕ) → assigned_step t (map-TacStmt _ _ (assigned t) layer) ≡ (if d == t || false then Otherwise else Nowhere)) →
+      ((t : ℕ) → assigned_step t (map-TacStmt _ _ (assigned t) layer) ≡
+      (if d == t || false then Otherwise else Nowhere)) →
       ((t : ℕ) → with_parts (assigns_words t) (map-TacStmt _ _ (words_alone t) layer) ≡ (not (d == t) || word)) →
       ((t : ℕ) → slice_get b t ≡ noted (d == t) Otherwise word (slice_get a t)) → NotesStmt stmt a b
   otherwise_noted d word layer is step words h = by_layer stmt layer a b is (λ t.

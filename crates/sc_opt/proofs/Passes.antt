@@ -1,5 +1,6 @@
 -- Passes in a row keep what one pass keeps, and leave code that is lean.
-use Rattle.std.proofs.Common.{Bool, List, None, Option, Some, [], ap, arith, eq-eqb, eqb-true, false, if◌then◌else◌, is_some, map}
+use Rattle.std.proofs.Common.{Bool, List, None, Option, Some, [], ap, arith, eq-eqb, eqb-true, false, if◌then◌else◌}
+use Rattle.std.proofs.Common.{is_some, map}
 use Rattle.std.proofs.Common.{not, refl, subst, suc, sym, true, zero, ℕ, ◌+◌, ◌<◌, ◌==◌, ◌∙◌, ◌≡◌, ◌≤◌}
 use Rattle.sc_event.specs.declared.interface.Interfaces.{Interfaces}
 use Rattle.sc_core.specs.Prelude.{Arith, Calls, Here, Piece, Reached, State, Stopped}
@@ -35,10 +36,10 @@ pub tests_kept : (test : TacStmt-F Bool → Bool) → ((body : List TacStmt) →
 tests_kept test keep zero body h = keep body h
 tests_kept test keep (suc n) body h =
     by (kept_weight body) (tests_kept test keep n (one_pass body) (keep body h)) where
-  by : (b : Bool) → everywhere test (optimised_within n (one_pass body)) ≡ true →
-      everywhere test (if b then one_pass body else optimised_within n (one_pass body)) ≡ true
-  by true more = keep body h
-  by false more = more
+      by : (b : Bool) → everywhere test (optimised_within n (one_pass body)) ≡ true →
+          everywhere test (if b then one_pass body else optimised_within n (one_pass body)) ≡ true
+      by true more = keep body h
+      by false more = more
 
 pub keeps_statements : KeepsStatements optimised
 keeps_statements = record {
@@ -56,10 +57,10 @@ rules_within : (n : ℕ) (f : TacFnTree) → IsFunction f → IsFunction (change
 rules_within zero f rules = pass_keeps_rules f rules
 rules_within (suc n) f rules =
     by (kept_weight f.body) (rules_within n (changed_function one_pass f) (pass_keeps_rules f rules)) where
-  by : (b : Bool) → IsFunction (changed_function (optimised_within n) (changed_function one_pass f)) →
-      IsFunction (record f { body = if b then one_pass f.body else optimised_within n (one_pass f.body) })
-  by true more = pass_keeps_rules f rules
-  by false more = more
+      by : (b : Bool) → IsFunction (changed_function (optimised_within n) (changed_function one_pass f)) →
+          IsFunction (record f { body = if b then one_pass f.body else optimised_within n (one_pass f.body) })
+      by true more = pass_keeps_rules f rules
+      by false more = more
 
 pub optimised_keeps_rules : (f : TacFnTree) → IsFunction f → IsFunction (changed_function optimised f)
 optimised_keeps_rules f rules = rules_within (weight f.body) f rules
@@ -102,15 +103,15 @@ lean_within zero f rules few = lean_after f rules (both_none (no_heavier_pass f.
   both_none h = omega (arith, h, few)
 lean_within (suc n) f rules few = by (kept_weight f.body) refl
     (lean_within n (changed_function one_pass f) (pass_keeps_rules f rules)) where
-  falls : weight (one_pass f.body) ≤ weight f.body → (weight (one_pass f.body) ≡ weight f.body → ⊥) →
-      weight (one_pass f.body) ≤ n
-  falls h other = omega (arith, h, other, few)
+      falls : weight (one_pass f.body) ≤ weight f.body → (weight (one_pass f.body) ≡ weight f.body → ⊥) →
+          weight (one_pass f.body) ≤ n
+      falls h other = omega (arith, h, other, few)
 
-  by : (b : Bool) → kept_weight f.body ≡ b →
-      (weight (one_pass f.body) ≤ n → lean (optimised_within n (one_pass f.body)) ≡ true) →
-      lean (if b then one_pass f.body else optimised_within n (one_pass f.body)) ≡ true
-  by true is more = lean_after f rules (eqb-true (weight (one_pass f.body)) (weight f.body) is)
-  by false is more = more (falls (no_heavier_pass f.body) (not_same (weight (one_pass f.body)) (weight f.body) is))
+      by : (b : Bool) → kept_weight f.body ≡ b →
+          (weight (one_pass f.body) ≤ n → lean (optimised_within n (one_pass f.body)) ≡ true) →
+          lean (if b then one_pass f.body else optimised_within n (one_pass f.body)) ≡ true
+      by true is more = lean_after f rules (eqb-true (weight (one_pass f.body)) (weight f.body) is)
+      by false is more = more (falls (no_heavier_pass f.body) (not_same (weight (one_pass f.body)) (weight f.body) is))
 
 pub optimised_is_lean : (f : TacFnTree) → IsFunction f → lean (optimised f.body) ≡ true
 optimised_is_lean f rules = lean_within (weight f.body) f rules (itself (weight f.body)) where
@@ -124,12 +125,12 @@ same_within : (m n : ℕ) (body : List TacStmt) → weight body ≤ m → weight
 same_within zero zero body few less = refl
 same_within zero (suc n) body few less = sym (ap (λ b. if b then one_pass body else optimised_within n (one_pass body))
     (eq-eqb (weight (one_pass body)) (weight body) (both_none (no_heavier_pass body)))) where
-  both_none : weight (one_pass body) ≤ weight body → weight (one_pass body) ≡ weight body
-  both_none h = omega (arith, h, few)
+      both_none : weight (one_pass body) ≤ weight body → weight (one_pass body) ≡ weight body
+      both_none h = omega (arith, h, few)
 same_within (suc m) zero body few less = ap (λ b. if b then one_pass body else optimised_within m (one_pass body))
     (eq-eqb (weight (one_pass body)) (weight body) (both_none (no_heavier_pass body))) where
-  both_none : weight (one_pass body) ≤ weight body → weight (one_pass body) ≡ weight body
-  both_none h = omega (arith, h, less)
+      both_none : weight (one_pass body) ≤ weight body → weight (one_pass body) ≡ weight body
+      both_none h = omega (arith, h, less)
 same_within (suc m) (suc n) body few less = by (kept_weight body) refl (same_within m n (one_pass body)) where
   first : weight (one_pass body) ≤ weight body → (weight (one_pass body) ≡ weight body → ⊥) →
       weight (one_pass body) ≤ m
@@ -201,14 +202,14 @@ module _ (arith : Arith) (fits : Fits arith) (gives : CallTarget → Bool) (here
   alike_within (suc n) f rules takes = by (kept_weight f.body)
       (alike_within n (changed_function one_pass f) (pass_keeps_rules f rules)
       (pass_keeps f.body _ (promises_stay _ _ _ _ gives) takes)) where
-    by : (b : Bool) →
-        AlikeTo (changed_function one_pass f) (changed_function (optimised_within n) (changed_function one_pass f)) →
-        AlikeTo f (record f { body = if b then one_pass f.body else optimised_within n (one_pass f.body) })
-    by true more C D agree giving s = once f rules takes C D agree giving s
-    by false more C D agree giving s =
-        along _ ((code_function arith (changed_function one_pass f)).does C here s) _
-        (once f rules takes C C (all_same C) giving s)
-        (more C D agree giving s)
+        by : (b : Bool) →
+            AlikeTo (changed_function one_pass f) (changed_function (optimised_within n) (changed_function one_pass f)) →
+            AlikeTo f (record f { body = if b then one_pass f.body else optimised_within n (one_pass f.body) })
+        by true more C D agree giving s = once f rules takes C D agree giving s
+        by false more C D agree giving s =
+            along _ ((code_function arith (changed_function one_pass f)).does C here s) _
+            (once f rules takes C C (all_same C) giving s)
+            (more C D agree giving s)
 
   pub optimised_alike : (f : TacFnTree) → IsFunction f → everywhere (takes_promised gives) f.body ≡ true →
       AlikeTo f (changed_function optimised f)

@@ -15,7 +15,8 @@ use Rattle.sc_event.specs.declared.row.Entry.{Entry}
 use Rattle.sc_event.specs.declared.row.Entry.TheVariants.{Export, Main}
 use Rattle.sc_core.specs.Value.{truth}
 use Rattle.sc_tac.specs.Prelude.{IsProgram, are_entered, are_headed, calls_exports, calls_imports, calls_own, count}
-use Rattle.sc_tac.specs.Prelude.{entry_known, everywhere, exports_entered, has_head, in_section, is_entered, main_entered}
+use Rattle.sc_tac.specs.Prelude.{entry_known, everywhere, exports_entered, has_head, in_section, is_entered}
+use Rattle.sc_tac.specs.Prelude.{main_entered}
 use Rattle.sc_tac.specs.Prelude.{names_own_global, numbered, own_call_fits, same_entry}
 use Rattle.sc_tac.specs.declared.function.TacFnTree.{TacFnTree}
 use Rattle.sc_tac.specs.declared.program.TacSection.{TacSection}
@@ -59,7 +60,8 @@ module _ (change : List TacStmt → List TacStmt) where
   entered_same : (entry : Entry) (params : ℕ) (result : Bool) (section : TacSection) →
       is_entered entry params result (changed_section change section) ≡ is_entered entry params result section
   entered_same entry params result section =
-      ap₂ (λ n b. (n == 1) && b) (count_same entry section.functions) (headed_same entry params result section.functions)
+      ap₂ (λ n b. (n == 1) && b) (count_same entry section.functions)
+      (headed_same entry params result section.functions)
 
   all_entered : (index : ℕ) (protos : List Proto) (section : TacSection) →
       are_entered index protos (changed_section change section) ≡ are_entered index protos section
@@ -122,7 +124,8 @@ module _ (change : List TacStmt → List TacStmt) where
       record {
         sections = length-map program.sections section_of ∙ rules.sections;
         numbers = numbered_kept section_of _ _ (λ comp section h. all_kept {X = TacFnTree} changed
-            (λ f. f.comp == comp) (λ f. f.comp == comp) (λ f h. h) section.functions h) 0 program.sections rules.numbers;
+            (λ f. f.comp == comp) (λ f. f.comp == comp) (λ f h. h) section.functions h) 0 program.sections
+            rules.numbers;
         globals = numbered_kept section_of _ _ (λ comp section h. in_section_kept
             (names_own_global i comp section) (names_own_global i comp (section_of section)) (λ k. refl)
             (keeps.globals i comp section) section h) 0 program.sections rules.globals;

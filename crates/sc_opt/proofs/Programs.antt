@@ -1,6 +1,7 @@
 -- A program of three-address code runs as it does where each of its functions is optimised, whoever performs.
 use Rattle.std.proofs.Common.{Bool, List, None, Option, Some, [], ap, ap₂, cond, false, if◌then◌else◌, is_some, length}
-use Rattle.std.proofs.Common.{arith as numbers, map, nat_lt, not, refl, slice_get, subst, suc, sym, true, zero, ℕ, ◌&&◌, ◌+◌}
+use Rattle.std.proofs.Common.{arith as numbers, map, nat_lt, not, refl, slice_get, subst, suc, sym, true, zero, ℕ}
+use Rattle.std.proofs.Common.{◌&&◌, ◌+◌}
 use Rattle.std.proofs.Common.{◌==◌, ◌∙◌, ◌∷◌, ◌≡◌}
 use Rattle.std.proofs.lemmas.Bool.{and_from}
 use Rattle.std.proofs.lemmas.List.{length-map}
@@ -22,13 +23,16 @@ use Rattle.sc_core.specs.declared.expr.CallTarget.{CallTarget}
 use Rattle.sc_core.specs.declared.expr.CallTarget.TheVariants.{Cross, Input, Own}
 use Rattle.sc_core.specs.declared.value.Value.{Value}
 use Rattle.sc_core_laws.proofs.Promises.{promising_run_alike}
-use Rattle.sc_core_laws.specs.Prelude.{AgreeWithPromises, DenotationsAgreeWithPromises, IfReached, Meets, Promised, Promises}
+use Rattle.sc_core_laws.specs.Prelude.{AgreeWithPromises, DenotationsAgreeWithPromises, IfReached, Meets, Promised}
+use Rattle.sc_core_laws.specs.Prelude.{Promises}
 use Rattle.sc_core_laws.specs.Prelude.{RunsAgree, promised_by}
 use Rattle.sc_core_laws.specs.Promises.{has_result}
 use Rattle.sc_tac.proofs.Induction.{Inside, stmt_induction}
 use Rattle.sc_tac.specs.Prelude.{IsFunction, all_true, calls_exports, calls_own, code_denotations, code_function}
-use Rattle.sc_tac.specs.Prelude.{code_functions, code_globals, cross_call_fits, everywhere, first_blocks, function_entered}
-use Rattle.sc_tac.specs.Prelude.{in_section, numbered, own_call_fits, passes_words, returns_result, same_entry, with_parts}
+use Rattle.sc_tac.specs.Prelude.{code_functions, code_globals, cross_call_fits, everywhere, first_blocks}
+use Rattle.sc_tac.specs.Prelude.{function_entered}
+use Rattle.sc_tac.specs.Prelude.{in_section, numbered, own_call_fits, passes_words, returns_result, same_entry}
+use Rattle.sc_tac.specs.Prelude.{with_parts}
 use Rattle.sc_tac.specs.declared.function.TacFnTree.{TacFnTree}
 use Rattle.sc_tac.specs.declared.program.TacSection.{TacSection}
 use Rattle.sc_tac.specs.declared.program.TacTree.{TacTree}
@@ -287,7 +291,8 @@ module _ (arith : Arith) (fits : Fits arith) (program : TacTree) (rules : KeepsR
         (promising_run_alike.meaning L M (results program) program_agrees (code_globals program.sections) inputs turns);
     scripted = λ set trace inputs turns.
         let roles : Roles = roles_in program.interfaces.main set trace in
-        subst (λ globals. RunsAgree (run_by L (scripted_step L roles (run_step L)) (code_globals program.sections) inputs
+        subst (λ globals. RunsAgree (run_by L (scripted_step L roles (run_step L))
+        (code_globals program.sections) inputs
         turns) (run_by M (scripted_step M roles (run_step M)) globals inputs turns)) (sym (same_globals program))
         (promising_run_alike.scripted L M (results program) program_agrees roles (code_globals program.sections) inputs
         turns);

@@ -1,5 +1,6 @@
 -- The promises.
-use Rattle.std.proofs.Common.{List, None, Option, Some, [], ap, map, refl, slice_get, subst, suc, sym, true, zero, ℕ, ◌∙◌}
+use Rattle.std.proofs.Common.{List, None, Option, Some, [], ap, map, refl, slice_get, subst, suc, sym, true, zero, ℕ}
+use Rattle.std.proofs.Common.{◌∙◌}
 use Rattle.std.proofs.Common.{◌∷◌, ◌≡◌}
 use Rattle.std.proofs.lemmas.Option.{same_Some, slice_get-map}
 use Rattle.std.specs.Option.{option_map}
@@ -12,7 +13,8 @@ use Rattle.sc_opt.specs.Laws.{EachFunction, KeepsFunction, KeepsRules, KeepsSect
 use Rattle.sc_opt.specs.Laws.{OptimiserKeepsRules, OptimiserKeepsShape, ResultsAreLean}
 use Rattle.sc_opt.specs.Optimised.{optimised, optimised_function, optimised_program, optimised_section}
 use Rattle.sc_opt.specs.Pass.{lean}
-use Rattle.sc_opt.proofs.Passes.{fewer_branches, fewer_statements, keeps_statements, optimised_is_lean, optimised_keeps_rules}
+use Rattle.sc_opt.proofs.Passes.{fewer_branches, fewer_statements, keeps_statements, optimised_is_lean}
+use Rattle.sc_opt.proofs.Passes.{optimised_keeps_rules}
 use Rattle.sc_opt.proofs.Programs.{c_runs_alike, wrapping_runs_alike}
 use Rattle.sc_opt.proofs.ProgramRules.{program_keeps_rules}
 

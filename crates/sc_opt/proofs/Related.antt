@@ -68,7 +68,8 @@ module _ (table : ℕ → Assigned) (source : ℕ → ℕ) (used holds_word : �
   ends_then end s p h m = record { other = m.other; is = ap (λ x. and_then x h) m.is; same = m.same }
 
   -- more was assigned before
-  lands_after : (live : TempSet) (g g' : Temps) (c c1 c2 : Assignments) (a b : Temps) → Splits c c1 c2 → AddsOnly g c1 g' →
+  lands_after : (live : TempSet) (g g' : Temps) (c c1 c2 : Assignments) (a b : Temps) → Splits c c1 c2 →
+      AddsOnly g c1 g' →
       Lands live g' c2 a b → Lands live g c a b
   lands_after live g g' c c1 c2 a b split adds l = record {
     after = l.after;
@@ -83,7 +84,8 @@ module _ (table : ℕ → Assigned) (source : ℕ → ℕ) (used holds_word : �
   exit_after lives g g' c c1 c2 Continue a b split adds l = lands_after lives.continued g g' c c1 c2 a b split adds l
   exit_after lives g g' c c1 c2 (Return v) a b split adds l = tt
 
-  pub related_after : (lives : Lives) (g g' : Temps) (c c1 c2 : Assignments) (o p : Piece (Left Temps)) → Splits c c1 c2 →
+  pub related_after : (lives : Lives) (g g' : Temps) (c c1 c2 : Assignments) (o p : Piece (Left Temps)) →
+      Splits c c1 c2 →
       AddsOnly g c1 g' → Related lives g' c2 o p → Related lives g c o p
   related_after lives g g' c c1 c2 (Reached l s) p split adds m = record {
     temps = m.temps;
@@ -100,7 +102,8 @@ module _ (table : ℕ → Assigned) (source : ℕ → ℕ) (used holds_word : �
 
   -- STATEMENTS IN ORDER
   module _ (lives : Lives) (live : TempSet) (g : Temps) (c c1 c2 : Assignments) (split : Splits c c1 c2) (f h : Codes)
-      (rest : (g' a b : Temps) (s : State) → At live g' a b → AddsOnly g c1 g' → Related lives g' c2 (f a s) (h b s)) where
+      (rest : (g' a b : Temps) (s : State) → At live g' a b → AddsOnly g c1 g' → Related lives g' c2 (f a s)
+      (h b s)) where
     front : Lives
     front = record lives { following = live }
 
@@ -179,7 +182,8 @@ module _ (table : ℕ → Assigned) (source : ℕ → ℕ) (used holds_word : �
       Follows lives g assignments o p → Follows lives g assignments o q
   follows_along {lives} {g} {assignments} {o} e m = subst (Follows lives g assignments o) (sym e) m
 
-  pub across : {lives : Lives} {g : Temps} {assignments : Assignments} {o o' p p' : Piece (Left Temps)} → o ≡ o' → p ≡ p' →
+  pub across : {lives : Lives} {g : Temps} {assignments : Assignments} {o o' p p' : Piece (Left Temps)} → o ≡ o' →
+      p ≡ p' →
       Follows lives g assignments o' p' → Follows lives g assignments o p
   across {lives} {g} {assignments} {o} {o'} {p} {p'} e f m = subst (λ x. Follows lives g assignments x p) (sym e)
       (subst (Follows lives g assignments o') (sym f) m)
@@ -188,7 +192,8 @@ module _ (table : ℕ → Assigned) (source : ℕ → ℕ) (used holds_word : �
       ((t : ℕ) → c t ≡ Nowhere → c1 t ≡ Nowhere) → Follows lives g c1 o p → Follows lives g c o p
   follows_within lives g c c1 o p fewer m = record { related = related_within lives g c c1 o p fewer m.related }
 
-  pub follows_row : (lives : Lives) (live : TempSet) (g : Temps) (c c1 c2 : Assignments) → Splits c c1 c2 → (f h : Codes) →
+  pub follows_row : (lives : Lives) (live : TempSet) (g : Temps) (c c1 c2 : Assignments) → Splits c c1 c2 →
+      (f h : Codes) →
       ((g' a b : Temps) (s : State) → At live g' a b → AddsOnly g c1 g' → Follows lives g' c2 (f a s) (h b s)) →
       (o p : Piece (Left Temps)) → Follows (record lives { following = live }) g c1 o p →
       Follows lives g c (follow in_order o f) (follow in_order p h)
@@ -197,7 +202,8 @@ module _ (table : ℕ → Assigned) (source : ℕ → ℕ) (used holds_word : �
         m.related;
   }
 
-  pub follows_rounds : (lives : Lives) (g : Temps) (c c1 c2 c3 : Assignments) → ((t : ℕ) → c t ≡ Nowhere → c1 t ≡ Nowhere) →
+  pub follows_rounds : (lives : Lives) (g : Temps) (c c1 c2 c3 : Assignments) → ((t : ℕ) → c t ≡ Nowhere →
+      c1 t ≡ Nowhere) →
       ((t : ℕ) → c t ≡ Nowhere → c2 t ≡ Nowhere) → ((t : ℕ) → c t ≡ Nowhere → c3 t ≡ Nowhere) →
       (head body next head' body' next' : Codes) →
       ((a b : Temps) (s : State) → Follows (part_lives lives nothing) no_temps c1 (head a s) (head' b s)) →

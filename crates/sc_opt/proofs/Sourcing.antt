@@ -1,5 +1,6 @@
 -- The sources of temporaries, in rising order.
-use Rattle.std.proofs.Common.{Bool, List, None, Option, Some, [], ap, arith, false, if◌then◌else◌, ltb-true, map, nat_lt}
+use Rattle.std.proofs.Common.{Bool, List, None, Option, Some, [], ap, arith, false, if◌then◌else◌, ltb-true, map}
+use Rattle.std.proofs.Common.{nat_lt}
 use Rattle.std.proofs.Common.{refl, slice_get, subst, suc, sym, true, zero-add, zero, ℕ, ◌++◌, ◌+◌, ◌<◌, ◌∙◌, ◌∷◌, ◌≡◌}
 use Rattle.std.proofs.lemmas.List.FromFn.{map-range_with_len_more}
 use Rattle.std.specs.List.{range_with_len}
@@ -18,8 +19,8 @@ module _ (table : ℕ → Assigned) (t : ℕ) where
   below : (u : ℕ) → u < t → source_at known u ≡ copy_sources table t u
   below u less = ap (λ o. unwrap_or o u) (ranged (copy_source table) 0 t u less) ∙ ap (copy_source table) (same u)
       ∙ sym (lower table (λ t. true) (λ t. true) t u less) where
-    same : (u : ℕ) → 0 + u ≡ u
-    same u = omega arith
+        same : (u : ℕ) → 0 + u ≡ u
+        same u = omega arith
 
   either : (u : ℕ) (once b : Bool) → nat_lt u t ≡ b → (other : ℕ) →
       (if once then (if b then source_at known u else other) else t)

@@ -1,5 +1,6 @@
 -- A list from one of its items on.
-use Rattle.std.proofs.Common.{List, [], arith, drop, drop-cons, get_or, length, refl, subst, suc, sym, zero, ℕ, ◌+◌, ◌<◌}
+use Rattle.std.proofs.Common.{List, [], arith, drop, drop-cons, get_or, length, refl, subst, suc, sym, zero, ℕ, ◌+◌}
+use Rattle.std.proofs.Common.{◌<◌}
 use Rattle.std.proofs.Common.{◌∙◌, ◌∷◌, ◌≡◌, ◌≤◌}
 
 parted : {X : Type 0} (list : List X) (i : ℕ) (x : X) → i < length list → x ≡ get_or list i x →

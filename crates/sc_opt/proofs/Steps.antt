@@ -12,7 +12,8 @@ use Rattle.sc_core.specs.declared.expr.CallTarget.{CallTarget}
 use Rattle.sc_core.specs.declared.run.RunEnd.{RunEnd}
 use Rattle.sc_core.specs.declared.value.Value.{Value}
 use Rattle.sc_core_laws.specs.Prelude.{PiecesAgree, piece_without_line, without_line}
-use Rattle.sc_tac.specs.Prelude.{Codes, Lives, TempSet, Temps, call_does, code_step, constant_value, gets, is_one, known}
+use Rattle.sc_tac.specs.Prelude.{Codes, Lives, TempSet, Temps, call_does, code_step, constant_value, gets, is_one}
+use Rattle.sc_tac.specs.Prelude.{known}
 use Rattle.sc_tac.specs.Prelude.{one_or_none, op_does, operated, read, read_all, received, return_does, second}
 use Rattle.sc_tac.specs.Prelude.{stmt_does, store_does, with_temp}
 use Rattle.sc_tac.specs.declared.stmt.Constant.{Constant}
@@ -21,7 +22,8 @@ use Rattle.sc_tac.specs.declared.stmt.TacStmt.{TacStmt, TacStmt-F, fold-roll-Tac
 use Rattle.sc_opt.specs.Pass.{all_used, is_once, keep_if}
 use Rattle.sc_opt.proofs.Joined.{AtMost, decide, not_same, with_here, with_other}
 use Rattle.sc_opt.proofs.Agreement.{Gains, AreSources, Moved, TempsAgree, Reads, gained, less, reads_of}
-use Rattle.sc_opt.proofs.Related.{At, Assignments, Ends, Follows, NotYet, AddsOnly, Lands, Leaves, across, follows_along}
+use Rattle.sc_opt.proofs.Related.{At, Assignments, Ends, Follows, NotYet, AddsOnly, Lands, Leaves, across}
+use Rattle.sc_opt.proofs.Related.{follows_along}
 use Rattle.sc_opt.specs.declared.facts.Assigned.{Assigned}
 use Rattle.sc_opt.specs.declared.facts.Assigned.TheVariants.{ByConstant, ByCopy, Nowhere, Otherwise, Several}
 
@@ -30,7 +32,8 @@ abbrev pub does_option : Arith → Here → Calls → Option TacStmt → Codes
 does_option arith here by None = leave Next
 does_option arith here by (Some stmt) = stmt_does arith here by stmt
 
-module _ (table : ℕ → Assigned) (source : ℕ → ℕ) (used holds_word : ℕ → Bool) (are_sources : AreSources table source used holds_word)
+module _ (table : ℕ → Assigned) (source : ℕ → ℕ) (used holds_word : ℕ → Bool)
+    (are_sources : AreSources table source used holds_word)
     (arith : Arith) (here : Here) (C D : Calls) where
   abbrev pub done : Option TacStmt → Codes
   done = does_option arith here D
@@ -41,7 +44,8 @@ module _ (table : ℕ → Assigned) (source : ℕ → ℕ) (used holds_word : �
   rolled by k b s = ap (λ f. f b s) (fold-roll-TacStmt Codes (code_step arith here by) k)
 
   -- what isn't assigned_first by a copy alone is read where it is
-  pub plain_source : (d : ℕ) (x : Assigned) → AtMost x (table d) → (x ≡ Nowhere → ⊥) → ((u : ℕ) → x ≡ ByCopy u → ⊥) → source d ≡ d
+  pub plain_source : (d : ℕ) (x : Assigned) → AtMost x (table d) → (x ≡ Nowhere → ⊥) → ((u : ℕ) → x ≡ ByCopy u → ⊥) →
+      source d ≡ d
   plain_source d x below some no_copy = by (are_sources d) below where
     by : ((source d ≡ d) ⊎ Moved table source used holds_word d) → AtMost x (table d) → source d ≡ d
     by (inl same) below = same
@@ -127,7 +131,8 @@ module _ (table : ℕ → Assigned) (source : ℕ → ℕ) (used holds_word : �
           ((v : Value) → g t ≡ Some v → R (f v s) (h v s)) →
           R (and_then (read here t a s) f) (and_then (read here (source t) b s) h)
       read_then t can s f h k = let r = reads t can in
-          across table source used holds_word (ap (λ o. and_then o f) (read_here t r s)) (ap (λ o. and_then o h) (read_there t r s))
+          across table source used holds_word (ap (λ o. and_then o f) (read_here t r s)) (ap (λ o. and_then o h)
+          (read_there t r s))
           (k r.value r.ghost)
 
       -- several

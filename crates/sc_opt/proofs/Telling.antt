@@ -1,6 +1,7 @@
 -- The pass that the tables of a function describe is the pass.
 use Rattle.std.proofs.Common.{Bool, List, None, Option, Some, [], ap, arith, eqb-true, false, if◌then◌else◌, ltb-false}
-use Rattle.std.proofs.Common.{ltb-true, map, nat_lt, not, refl, replicate, slice_get, subst, suc, sym, true, zero, ℕ, ◌&&◌}
+use Rattle.std.proofs.Common.{ltb-true, map, nat_lt, not, refl, replicate, slice_get, subst, suc, sym, true, zero, ℕ}
+use Rattle.std.proofs.Common.{◌&&◌}
 use Rattle.std.proofs.Common.{◌++◌, ◌+◌, ◌<◌, ◌==◌, ◌||◌, ◌∙◌, ◌∷◌, ◌≡◌, ◌≤◌}
 use Rattle.std.proofs.lemmas.Bool.{and_from}
 use Rattle.std.specs.List.{list_all, list_any, range_with_len}
@@ -13,9 +14,11 @@ use Rattle.sc_tac.specs.declared.stmt.Constant.{Constant}
 use Rattle.sc_tac.specs.declared.stmt.TacStmt.{TacStmt, TacStmt-F, fold-TacStmt, fold-roll-TacStmt, map-TacStmt}
 use Rattle.sc_tac.specs.declared.stmt.TacStmt.{roll-TacStmt}
 use Rattle.sc_tac.specs.declared.stmt.TacStmt.TheOpen as tac
-use Rattle.sc_opt.specs.Pass.{always_word, assigned_in, assigns_words, copies_one, copy_source, folded, is_read, one_pass}
+use Rattle.sc_opt.specs.Pass.{always_word, assigned_in, assigns_words, copies_one, copy_source, folded, is_read}
+use Rattle.sc_opt.specs.Pass.{one_pass}
 use Rattle.sc_opt.specs.Pass.{passed, reads_some, reads_unless, reads_within, table_of}
-use Rattle.sc_opt.specs.Tables.{Tell, assigned_at, holds_word_at, marked, nothing_known, passed_by, reads_stmt, source_at}
+use Rattle.sc_opt.specs.Tables.{Tell, assigned_at, holds_word_at, marked, nothing_known, passed_by, reads_stmt}
+use Rattle.sc_opt.specs.Tables.{source_at}
 use Rattle.sc_opt.specs.Tables.{used_at, with_fact}
 use Rattle.sc_opt.specs.declared.facts.Assigned.{Assigned}
 use Rattle.sc_opt.specs.declared.facts.Assigned.TheVariants.{Nowhere}
@@ -243,8 +246,8 @@ module _ (temps : ℕ) (body : List TacStmt) (own : everywhere (names_own_temps 
   source_is_at : (t : ℕ) (b : Bool) → nat_lt t temps ≡ b → source_at tables.origins.sources t ≡ copied_from t
   source_is_at t true is = ap (λ l. unwrap_or (slice_get l t) t) tell.sources
       ∙ ap (λ o. unwrap_or o t) (ranged copied_from 0 temps t (ltb-true t temps is)) ∙ ap copied_from (no_more t) where
-    no_more : (t : ℕ) → 0 + t ≡ t
-    no_more t = omega arith
+        no_more : (t : ℕ) → 0 + t ≡ t
+        no_more t = omega arith
   source_is_at t false is = ap (λ l. unwrap_or (slice_get l t) t) tell.sources
       ∙ ap (λ o. unwrap_or o t) (ranged_out copied_from 0 temps t (ltb-false t temps is))
       ∙ sym (source_outside t (ltb-false t temps is))

@@ -1,5 +1,6 @@
 -- A pass that takes no weight away changes nothing.
-use Rattle.std.proofs.Common.{Bool, List, None, Option, Some, [], ap, ap₂, false, map, not, refl, subst, sym, true, ℕ, ◌&&◌}
+use Rattle.std.proofs.Common.{Bool, List, None, Option, Some, [], ap, ap₂, false, map, not, refl, subst, sym, true, ℕ}
+use Rattle.std.proofs.Common.{◌&&◌}
 use Rattle.std.proofs.Common.{◌==◌, ◌||◌, ◌∙◌, ◌∷◌, ◌≡◌, ◌≤◌}
 use Rattle.std.specs.Option.{option_map}
 use Rattle.sc_base.proofs.Bools.{and_first, and_rest}
@@ -100,7 +101,8 @@ module _ (table : ℕ → Assigned) (source : ℕ → ℕ) (used holds_word : �
   layer_stays (tac.Return value) i h = ap (λ v. Some (roll-TacStmt (tac.Return v))) (maybe_home value)
 
   stmt_stays : (stmt : TacStmt) → Stays stmt
-  stmt_stays = stmt_induction Stays (λ k i h. fold-roll-TacStmt (Option TacStmt) (pass_step table source used holds_word) k
+  stmt_stays = stmt_induction Stays (λ k i h. fold-roll-TacStmt (Option TacStmt)
+      (pass_step table source used holds_word) k
       ∙ layer_stays k i (sym (fold-roll-TacStmt Bool (with_parts (is_kept table source used holds_word)) k) ∙ h))
 
   all_stay : (body : List TacStmt) → everywhere (is_kept table source used holds_word) body ≡ true →

@@ -99,9 +99,9 @@ module _ (t : ℕ) where
             (or_false (row_reads a ahead) _ one.first_not two.first_not);
         is_fresh = and_from _ _ one.is_fresh two.is_fresh;
       } where
-    single : (b : Bool) → not (b || false) ≡ true → b ≡ false
-    single true h = let no : false ≡ true = h in absurd (cc no)
-    single false h = refl
+        single : (b : Bool) → not (b || false) ≡ true → b ≡ false
+        single true h = let no : false ≡ true = h in absurd (cc no)
+        single false h = refl
   layer_silent (tac.Loop a b c) i h ahead q =
       let all = and_rest true (all_true (map test a) && (all_true (map test b) && (all_true (map test c) && true))) h in
       let one = and_first (all_true (map test a)) _ all in

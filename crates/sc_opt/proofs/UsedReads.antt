@@ -61,7 +61,8 @@ module _ (table : ℕ → Assigned) (source : ℕ → ℕ) (used holds_word : �
       ((x : ℕ) → reads_within table source x (map-TacStmt _ _ (reads x) k) ≡ true → used x ≡ true) →
       with_parts (reads_used table source used) (map-TacStmt _ _ test k) ≡ true
   layer_good (tac.Const dest value) i h = refl
-  layer_good (tac.Copy dest from) i h = alone (tac.Copy dest from) refl (copy_is (source dest == source from) (source from)) h
+  layer_good (tac.Copy dest from) i h = alone (tac.Copy dest from) refl (copy_is (source dest == source from)
+      (source from)) h
   layer_good (tac.Op dest o left right) i h = alone (tac.Op dest o left right) refl
       (unless_are (folded table o left right) (left ∷ one_or_none right)) h
   layer_good (tac.ObjectPlace dest object) i h = refl

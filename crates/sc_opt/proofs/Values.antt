@@ -1,5 +1,6 @@
 -- What operators give: where they are folded, where they can't be blamed, and where they give words.
-use Rattle.std.proofs.Common.{Bool, Err, List, None, Ok, Option, Result, Some, [], ap, false, if◌then◌else◌, refl, subst}
+use Rattle.std.proofs.Common.{Bool, Err, List, None, Ok, Option, Result, Some, [], ap, false, if◌then◌else◌, refl}
+use Rattle.std.proofs.Common.{subst}
 use Rattle.std.proofs.Common.{sym, true, ℕ, ◌&&◌, ◌∙◌, ◌≡◌}
 use Rattle.std.specs.Prelude.{slice_get, ℤ, ◌-◌, ◌^◌}
 use Rattle.sc_base.proofs.Bools.{and_first, and_rest}
@@ -21,7 +22,8 @@ use Rattle.sc_tac.specs.declared.stmt.Constant.{Constant}
 use Rattle.sc_tac.specs.declared.stmt.Constant.TheVariants as constant
 use Rattle.sc_tac.specs.declared.stmt.TacOp.{TacOp}
 use Rattle.sc_tac.specs.declared.stmt.TacOp.TheVariants as tacop
-use Rattle.sc_opt.specs.Pass.{constant_from, gives_word, is_total_signed, is_total_unsigned, is_total, on_constants, right_holds_word}
+use Rattle.sc_opt.specs.Pass.{constant_from, gives_word, is_total_signed, is_total_unsigned, is_total, on_constants}
+use Rattle.sc_opt.specs.Pass.{right_holds_word}
 use Rattle.sc_opt.specs.declared.facts.Assigned.{Assigned}
 
 -- what the pass needs of an arithmetic
@@ -144,7 +146,7 @@ module _ (table : ℕ → Assigned) (source : ℕ → ℕ) (used holds_word : �
   total_gives arith fits blocks (tacop.Unary unary.Minus scalar) left right v w h l r = no_word h
   total_gives arith fits blocks (tacop.Unary unary.Plus scalar) left right v w h l r = no_word h
   total_gives arith fits blocks (tacop.Unary unary.Not scalar) left right v w h l r = (_, refl)
-  total_gives arith fits blocks (tacop.Unary unary.BitNot scalar) left right v w h l r = 
+  total_gives arith fits blocks (tacop.Unary unary.BitNot scalar) left right v w h l r =
       on_word_gives (λ a. 2 ^ 32 - 1 - a) v (l h)
   total_gives arith fits blocks (tacop.Binary o Int) left right v w h l r =
       let both = and_rest (is_total_signed o) _ h in

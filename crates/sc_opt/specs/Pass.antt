@@ -1,6 +1,7 @@
 -- One pass over the code of a function: operators on constants are folded, copies are read where they come from, and
 -- what can't be blamed and is read by nobody goes.
-use Rattle.std.specs.Prelude.{◌≡◌, ◌⊎◌, ℕ, zero, suc, nat_lt, Bool, true, false, not, ◌&&◌, ◌||◌, ◌==◌, if◌then◌else◌, List, [], ◌∷◌, map}
+use Rattle.std.specs.Prelude.{◌≡◌, ◌⊎◌, ℕ, zero, suc, nat_lt, Bool, true, false, not, ◌&&◌, ◌||◌, ◌==◌, if◌then◌else◌}
+use Rattle.std.specs.Prelude.{List, [], ◌∷◌, map}
 use Rattle.std.specs.Prelude.{Option, None, Some, Result, Ok, Err}
 use Rattle.std.specs.Option.{option_map}
 use Rattle.std.specs.List.{list_all, list_any}
@@ -168,7 +169,8 @@ module _ (table : ℕ → Assigned) (source : ℕ → ℕ) (used holds_word : �
   abbrev pub pass_step : TacStmt-F (Option TacStmt) → Option TacStmt
   pass_step (tac.Const dest value) = keep_if (used dest) (tac.Const dest value)
   pass_step (tac.Copy dest from) = keep_if (not (source dest == source from) && used dest) (tac.Copy dest (source from))
-  pass_step (tac.Op dest o left right) = operator_code source used holds_word dest o left right (folded table o left right)
+  pass_step (tac.Op dest o left right) = operator_code source used holds_word dest o left right
+      (folded table o left right)
   pass_step (tac.ObjectPlace dest object) = keep_if (used dest) (tac.ObjectPlace dest object)
   pass_step (tac.GlobalPlace dest global) = keep_if (used dest) (tac.GlobalPlace dest global)
   pass_step (tac.Load dest place pointer) = keep (tac.Load dest (source place) pointer)
@@ -240,7 +242,8 @@ module _ (table : ℕ → Assigned) where
   -- by where those with lower numbers are read
   abbrev pub source_by : (lower : ℕ → ℕ) → ℕ → Assigned → ℕ
   source_by lower t (ByCopy from) =
-      if is_once (table from) then (if nat_lt from t then lower from else (if copies_one (table from) then t else from)) else t
+      if is_once (table from) then (if nat_lt from t then lower from else (if copies_one
+      (table from) then t else from)) else t
   source_by lower t _ = t
 
   -- of the temporaries below a number

@@ -1,5 +1,6 @@
 -- Helping: the tables of the code, and what they say of each temporary.
-use Rattle.std.specs.Prelude.{◌≡◌, ℕ, Bool, true, false, not, ◌&&◌, ◌||◌, ◌==◌, if◌then◌else◌, List, map, Option, None, Some}
+use Rattle.std.specs.Prelude.{◌≡◌, ℕ, Bool, true, false, not, ◌&&◌, ◌||◌, ◌==◌, if◌then◌else◌, List, map, Option, None}
+use Rattle.std.specs.Prelude.{Some}
 use Rattle.std.specs.Prelude.{replicate, slice_get}
 use Rattle.std.specs.List.{range_with_len}
 use Rattle.std.specs.Option.{option_map, unwrap_or}
@@ -8,7 +9,8 @@ use Rattle.sc_tac.specs.declared.stmt.Constant.{Constant}
 use Rattle.sc_tac.specs.declared.stmt.TacOp.{TacOp}
 use Rattle.sc_tac.specs.declared.stmt.TacStmt.{TacStmt, fold-TacStmt}
 use Rattle.sc_tac.specs.declared.stmt.TacStmt.TheVariants as emit
-use Rattle.sc_opt.specs.Pass.{assigned, assigned_in, assigns_words, copy_source, folded, is_read, is_total, joined, pass}
+use Rattle.sc_opt.specs.Pass.{assigned, assigned_in, assigns_words, copy_source, folded, is_read, is_total, joined}
+use Rattle.sc_opt.specs.Pass.{pass}
 use Rattle.sc_opt.specs.Pass.{present, reads_within}
 use Rattle.sc_opt.specs.declared.facts.Assigned.{Assigned}
 use Rattle.sc_opt.specs.declared.facts.Assigned.TheVariants.{Nowhere}

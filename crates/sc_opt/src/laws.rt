@@ -9,7 +9,8 @@ pub fn optimiser_keeps_meaning()
     ensures { OptimiserKeepsMeaning }
 {}
 
-/// Nothing is left to fold, no copy of what is assigned in one place, and nothing that can't be blamed and nobody reads.
+/// No operator on constants is left, no copy between temporaries that are assigned in one place each, and nothing that
+/// can't be blamed and that nobody reads.
 #[tactic(auto, using(crate::proofs::Promises::results_are_lean))]
 pub fn results_are_lean()
     ensures { ResultsAreLean }

@@ -5,7 +5,10 @@ ghost use Rattle.std.specs.Prelude.{◌≡◌, map, IfOk};
 
 use crate::pass::pass_function;
 use sc_base::OutOfMemory;
-use sc_tac::{Tac, TacFn, TacFns, TacSection, TacSections, TacTree, copy_globals, copy_interfaces, copy_structs};
+use sc_tac::{
+    Tac, TacFn, TacFns, TacSection, TacSections, TacTree, copy_globals, copy_interfaces,
+    copy_structs,
+};
 use std::alloc::Global;
 
 // Passes until one takes no weight away.

@@ -114,7 +114,10 @@ fn mark_stmt(origins: &Origins, marks: &mut Marks, stmt: &TacStmt)
     match stmt {
         TacStmt::Copy { dest, from } => mark_copy(origins, marks, *dest, *from),
         TacStmt::Op {
-            op, left, right, ..
+            op,
+            left,
+            right,
+            ..
         } => mark_operator(origins, marks, *op, *left, *right),
         TacStmt::Load { place, .. } => mark(origins, marks, *place),
         TacStmt::Store { place, value } => mark_temps(origins, marks, &[*place, *value]),
@@ -149,7 +152,12 @@ fn no_marks(alloc: Global, temps: u32) -> Result<Marks, OutOfMemory>
 }
 
 /// Which of the temporaries below a number code reads.
-pub fn uses_of(alloc: Global, temps: u32, origins: &Origins, body: &TacStmts) -> Result<Marks, OutOfMemory>
+pub fn uses_of(
+    alloc: Global,
+    temps: u32,
+    origins: &Origins,
+    body: &TacStmts,
+) -> Result<Marks, OutOfMemory>
     ensures { IfOk result (λ marks. MarksAll (assigned_at origins.now.facts) (source_at origins.now.sources) body.now
         (replicate temps false) marks) }
 {
