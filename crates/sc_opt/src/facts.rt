@@ -1,7 +1,7 @@
 //! What the code of a function says of its temporaries.
 
 ghost use Rattle.sc_opt.specs.Prelude.{Notes, NotesAll, NotesStmt, gives_word, is_word_constant, joined, noted};
-ghost use Rattle.sc_opt.specs.Prelude.{nothing_known};
+ghost use Rattle.sc_opt.specs.Prelude.{nothing_known, with_fact};
 ghost use Rattle.sc_tac.specs.Prelude.{is_one, one_or_none};
 ghost use Rattle.sc_opt.specs.declared.facts.Assigned.TheVariants.{Otherwise};
 ghost use Rattle.std.specs.Prelude.{◌≡◌, ◌==◌, ℕ, false, slice_get, replicate, IfOk};
@@ -42,16 +42,22 @@ fn joined(first: Assigned, second: Assigned) -> Assigned
     }
 }
 
+fn with_fact(known: Facts, assigned: Assigned, word: bool) -> Facts
+    ensures { result ≡ with_fact assigned word known }
+{
+    Facts {
+        assigned: joined(known.assigned, assigned),
+        holds_word: known.holds_word && word,
+    }
+}
+
 // One statement assigns a temporary.
 fn note(table: &mut FactTable, temp: u32, assigned: Assigned, word: bool)
     ensures { (t : ℕ) → slice_get table.new t ≡ noted (temp == t) assigned word (slice_get table.old t) }
 {
     let at = temp as usize;
     if let Some(known) = table.get(at) {
-        let facts = Facts {
-            assigned: joined(known.assigned, assigned),
-            holds_word: known.holds_word && word,
-        };
+        let facts = with_fact(*known, assigned, word);
         table.set(at, facts);
     }
 }

@@ -179,91 +179,91 @@ fn pass_all(alloc: Global, tables: &Tables, stmts: &TacStmts) -> Result<TacStmts
 fn pass_stmt(alloc: Global, tables: &Tables, stmt: &TacStmt) -> Result<Option<TacStmt>, OutOfMemory>
     ensures { IfOk result (λ passed. passed ≡ pass_by tables.now stmt.now) }
 {
-    Ok(match stmt {
+    match stmt {
         TacStmt::Const { dest, value } => {
             let (dest, value) = (*dest, *value);
-            keep(TacStmt::Const { dest, value }, tables.is_used(dest))
+            Ok(keep(TacStmt::Const { dest, value }, tables.is_used(dest)))
         }
-        TacStmt::Copy { dest, from } => pass_copy(tables, *dest, *from),
+        TacStmt::Copy { dest, from } => Ok(pass_copy(tables, *dest, *from)),
         TacStmt::Op {
             dest,
             op,
             left,
             right,
-        } => pass_operator(tables, *dest, *op, *left, *right),
+        } => Ok(pass_operator(tables, *dest, *op, *left, *right)),
         TacStmt::ObjectPlace { dest, object } => {
             let (dest, object) = (*dest, *object);
-            keep(TacStmt::ObjectPlace { dest, object }, tables.is_used(dest))
+            Ok(keep(TacStmt::ObjectPlace { dest, object }, tables.is_used(dest)))
         }
         TacStmt::GlobalPlace { dest, global } => {
             let (dest, global) = (*dest, *global);
-            keep(TacStmt::GlobalPlace { dest, global }, tables.is_used(dest))
+            Ok(keep(TacStmt::GlobalPlace { dest, global }, tables.is_used(dest)))
         }
         TacStmt::Load {
             dest,
             place,
             pointer,
-        } => Some(TacStmt::Load {
+        } => Ok(Some(TacStmt::Load {
             dest: *dest,
             place: tables.source(*place),
             pointer: *pointer,
-        }),
-        TacStmt::Store { place, value } => Some(TacStmt::Store {
+        })),
+        TacStmt::Store { place, value } => Ok(Some(TacStmt::Store {
             place: tables.source(*place),
             value: tables.source(*value),
-        }),
+        })),
         TacStmt::If {
             cond,
             then_part,
             else_part,
-        } => Some(TacStmt::If {
+        } => Ok(Some(TacStmt::If {
             cond: tables.source(*cond),
             then_part: pass_all(alloc, tables, then_part)?,
             else_part: pass_all(alloc, tables, else_part)?,
-        }),
-        TacStmt::Loop { head, body, next } => Some(TacStmt::Loop {
+        })),
+        TacStmt::Loop { head, body, next } => Ok(Some(TacStmt::Loop {
             head: pass_all(alloc, tables, head)?,
             body: pass_all(alloc, tables, body)?,
             next: pass_all(alloc, tables, next)?,
-        }),
-        TacStmt::Break => Some(TacStmt::Break),
-        TacStmt::Continue => Some(TacStmt::Continue),
+        })),
+        TacStmt::Break => Ok(Some(TacStmt::Break)),
+        TacStmt::Continue => Ok(Some(TacStmt::Continue)),
         TacStmt::CallOwn {
             dest,
             function,
             args,
-        } => Some(TacStmt::CallOwn {
+        } => Ok(Some(TacStmt::CallOwn {
             dest: *dest,
             function: *function,
             args: tables.source_all(alloc, args)?,
-        }),
+        })),
         TacStmt::CallCross {
             dest,
             comp,
             index,
             args,
-        } => Some(TacStmt::CallCross {
+        } => Ok(Some(TacStmt::CallCross {
             dest: *dest,
             comp: *comp,
             index: *index,
             args: tables.source_all(alloc, args)?,
-        }),
-        TacStmt::Input { dest } => Some(TacStmt::Input { dest: *dest }),
-        TacStmt::Output { value } => Some(TacStmt::Output {
+        })),
+        TacStmt::Input { dest } => Ok(Some(TacStmt::Input { dest: *dest })),
+        TacStmt::Output { value } => Ok(Some(TacStmt::Output {
             value: tables.source(*value),
-        }),
-        TacStmt::Alloc { dest, count, words } => Some(TacStmt::Alloc {
+        })),
+        TacStmt::Alloc { dest, count, words } => Ok(Some(TacStmt::Alloc {
             dest: *dest,
             count: tables.source(*count),
             words: *words,
-        }),
-        TacStmt::Free { pointer } => Some(TacStmt::Free {
+        })),
+        TacStmt::Free { pointer } => Ok(Some(TacStmt::Free {
             pointer: tables.source(*pointer),
-        }),
-        TacStmt::Return { value } => Some(TacStmt::Return {
+        })),
+        TacStmt::Return { value } => Ok(Some(TacStmt::Return {
             value: tables.source_maybe(*value),
-        }),
-    })
+        })),
+    }
 }
 
 // What a pass has to know of code.
