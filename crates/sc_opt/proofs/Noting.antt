@@ -1,8 +1,8 @@
 -- The table of facts, statement by statement.
 use Rattle.std.proofs.Common.{Bool, List, None, Option, Some, [], ap, ap₂, false, if◌then◌else◌, map, not, refl}
-use Rattle.std.proofs.Common.{slice_get}
-use Rattle.std.proofs.Common.{drop, get_or, length, subst, ◌+◌, ◌<◌, ◌≤◌}
+use Rattle.std.proofs.Common.{drop, eqb-true, get_or, length, slice_get, slice_set, subst, ◌+◌, ◌<◌, ◌≤◌}
 use Rattle.std.proofs.Common.{sym, true, ℕ, ◌&&◌, ◌==◌, ◌||◌, ◌∙◌, ◌∷◌, ◌≡◌}
+use Rattle.std.proofs.lemmas.Option.{slice_get_within}
 use Rattle.std.specs.Option.{option_map}
 use Rattle.sc_tac.specs.Prelude.{all_true, everywhere, is_one, one_or_none, with_parts}
 use Rattle.sc_tac.specs.Parts.{temp_assigned}
@@ -12,7 +12,8 @@ use Rattle.sc_tac.specs.declared.stmt.TacStmt.{TacStmt, TacStmt-F, fold-TacStmt,
 use Rattle.sc_tac.specs.declared.stmt.TacStmt.{roll-TacStmt}
 use Rattle.sc_tac.specs.declared.stmt.TacStmt.TheOpen as tac
 use Rattle.sc_tac.specs.declared.stmt.TacStmt.TheVariants as emit
-use Rattle.sc_opt.proofs.Stepping.{ended_of, parted_of}
+use Rattle.sc_opt.proofs.Joined.{not_same}
+use Rattle.sc_opt.proofs.Stepping.{ended_of, parted_of, set_elsewhere, set_here}
 use Rattle.sc_opt.specs.Pass.{assigned, assigned_in, assigned_step, assigns_words, gives_word, is_word_constant, joined}
 use Rattle.sc_opt.specs.Tables.{NotesAll, NotesStmt, noted, with_fact, words_alone}
 use Rattle.sc_opt.specs.declared.facts.Assigned.{Assigned}
@@ -63,6 +64,22 @@ one_fact : (here : Bool) (how : Assigned) (word : Bool) (known : Option Facts) �
     noted here how word known ≡ option_map (with_fact (if here then how else Nowhere) (not here || word)) known
 one_fact true how word known = refl
 one_fact false how word known = sym (no_fact known)
+
+-- a fact is set
+pub fact_set : (table after : List Facts) (temp : ℕ) (known fact : Facts) (how : Assigned) (word : Bool) →
+    Some known ≡ slice_get table temp → fact ≡ with_fact how word known → after ≡ slice_set table temp fact →
+    (t : ℕ) → slice_get after t ≡ noted (temp == t) how word (slice_get table t)
+fact_set table after temp known fact how word there is set t = by (temp == t) refl where
+  here : slice_get (slice_set table temp fact) temp ≡ option_map (with_fact how word) (slice_get table temp)
+  here = set_here table temp fact (slice_get_within table temp known (sym there)) ∙ ap Some is
+      ∙ ap (option_map (with_fact how word)) there
+
+  by : (b : Bool) → (temp == t) ≡ b → slice_get after t ≡ noted b how word (slice_get table t)
+  by true same = ap (λ l. slice_get l t) set
+      ∙ subst (λ u. slice_get (slice_set table temp fact) u ≡ option_map (with_fact how word) (slice_get table u))
+      (eqb-true temp t same) here
+  by false same = ap (λ l. slice_get l t) set
+      ∙ set_elsewhere table temp t fact (not_same {B = ⊥} temp t same)
 
 -- STATEMENTS IN ORDER
 pub notes_none : (table : List Facts) → NotesAll [] table table

@@ -296,6 +296,7 @@ module _ (arith : Arith) (fits : Fits arith) (program : TacTree) (rules : KeepsR
         turns) (run_by M (scripted_step M roles (run_step M)) globals inputs turns)) (sym (same_globals program))
         (promising_run_alike.scripted L M (results program) program_agrees roles (code_globals program.sections) inputs
         turns);
+    entered = program_agrees.entered;
     bodies = λ roles open_calls. promising_run_alike.bodies L M (results program) program_agrees roles open_calls;
   }
 

@@ -1,7 +1,6 @@
--- A list from one of its items on.
-use Rattle.std.proofs.Common.{List, [], arith, drop, drop-cons, get_or, length, refl, subst, suc, sym, zero, ℕ, ◌+◌}
-use Rattle.std.proofs.Common.{◌<◌}
-use Rattle.std.proofs.Common.{◌∙◌, ◌∷◌, ◌≡◌, ◌≤◌}
+-- A list from one of its items on, and with one item changed.
+use Rattle.std.proofs.Common.{List, Some, [], ap, arith, drop, drop-cons, get_or, length, refl, slice_get, slice_set}
+use Rattle.std.proofs.Common.{subst, suc, sym, zero, ℕ, ◌+◌, ◌<◌, ◌∙◌, ◌∷◌, ◌≡◌, ◌≤◌}
 
 parted : {X : Type 0} (list : List X) (i : ℕ) (x : X) → i < length list → x ≡ get_or list i x →
     x ∷ drop (i + 1) list ≡ drop i list
@@ -25,3 +24,17 @@ parted_of items list i x same less is =
 
 pub ended_of : {X : Type 0} (items list : List X) (i : ℕ) → items ≡ list → length items ≤ i → [] ≡ drop i list
 ended_of items list i same h = subst (λ l. [] ≡ drop i l) same (nothing_left items i h)
+
+pub set_here : {X : Type 0} (list : List X) (i : ℕ) (x : X) → i < length list →
+    slice_get (slice_set list i x) i ≡ Some x
+set_here [] i x h = absurd (omega arith)
+set_here (y ∷ rest) zero x h = refl
+set_here (y ∷ rest) (suc i) x h = set_here rest i x (omega (arith, h))
+
+pub set_elsewhere : {X : Type 0} (list : List X) (i j : ℕ) (x : X) → (i ≡ j → ⊥) →
+    slice_get (slice_set list i x) j ≡ slice_get list j
+set_elsewhere [] i j x h = refl
+set_elsewhere (y ∷ rest) zero zero x h = absurd (h refl)
+set_elsewhere (y ∷ rest) zero (suc j) x h = refl
+set_elsewhere (y ∷ rest) (suc i) zero x h = refl
+set_elsewhere (y ∷ rest) (suc i) (suc j) x h = set_elsewhere rest i j x (λ e. h (ap suc e))

@@ -1,6 +1,7 @@
 -- What is promised of the optimiser.
 use Rattle.std.specs.Prelude.{◌≡◌, ℕ, ◌≤◌, Bool, true, List, Some, slice_get}
 use Rattle.sc_event.specs.declared.event.Event.{Event}
+use Rattle.sc_event.specs.declared.row.Entry.{Entry}
 use Rattle.sc_core.specs.Prelude.{Arith, Roles, c_arith, run_step, scripted_step, within, wrapping}
 use Rattle.sc_core_laws.specs.Prelude.{BodiesAgree, Meets, RunsAgree}
 use Rattle.sc_tac.specs.Prelude.{IsFunction, IsProgram, branches, code_denotations, code_run, scripted_code_run}
@@ -28,6 +29,9 @@ pub record RunsAlike (arith : Arith) (program other : TacTree) : Type 0 where
   pub scripted : (set : ℕ → Bool) (trace : List Event) (inputs : List ℕ) (turns : ℕ) →
       RunsAgree (scripted_code_run arith program inputs turns set trace)
       (scripted_code_run arith other inputs turns set trace)
+  -- entries lead to the same functions
+  pub entered : (comp : ℕ) (entry : Entry) →
+      (code_denotations arith program).entered comp entry ≡ (code_denotations arith other).entered comp entry
   pub bodies : (roles : Roles) (open_calls : ℕ) → BodiesAgree
       (within (scripted_step (code_denotations arith program) roles (run_step (code_denotations arith program)))
       open_calls)

@@ -110,7 +110,7 @@ fn is_total(facts: &FactTable, op: TacOp, left: u32, right: Option<u32>) -> bool
     }
 }
 
-fn keep(stmt: TacStmt, kept: bool) -> Option<TacStmt>
+fn keep(kept: bool, stmt: TacStmt) -> Option<TacStmt>
     ensures { result ≡ keep_when kept stmt }
 {
     if kept { Some(stmt) } else { None }
@@ -121,7 +121,7 @@ fn pass_copy(tables: &Tables, dest: u32, from: u32) -> Option<TacStmt>
 {
     let source = tables.source(from);
     let kept = tables.source(dest) != source && tables.is_used(dest);
-    keep(TacStmt::Copy { dest, from: source }, kept)
+    keep(kept, TacStmt::Copy { dest, from: source })
 }
 
 fn pass_operator(
@@ -136,18 +136,18 @@ fn pass_operator(
     let facts = &tables.origins.facts;
     let used = tables.is_used(dest);
     match folded(facts, op, left, right) {
-        Some(value) => keep(TacStmt::Const { dest, value }, used),
+        Some(value) => keep(used, TacStmt::Const { dest, value }),
         None => {
             let kept = used || !is_total(facts, op, left, right);
             let (left, right) = (tables.source(left), tables.source_maybe(right));
             keep(
+                kept,
                 TacStmt::Op {
                     dest,
                     op,
                     left,
                     right,
                 },
-                kept,
             )
         }
     }
@@ -182,7 +182,7 @@ fn pass_stmt(alloc: Global, tables: &Tables, stmt: &TacStmt) -> Result<Option<Ta
     match stmt {
         TacStmt::Const { dest, value } => {
             let (dest, value) = (*dest, *value);
-            Ok(keep(TacStmt::Const { dest, value }, tables.is_used(dest)))
+            Ok(keep(tables.is_used(dest), TacStmt::Const { dest, value }))
         }
         TacStmt::Copy { dest, from } => Ok(pass_copy(tables, *dest, *from)),
         TacStmt::Op {
@@ -193,11 +193,11 @@ fn pass_stmt(alloc: Global, tables: &Tables, stmt: &TacStmt) -> Result<Option<Ta
         } => Ok(pass_operator(tables, *dest, *op, *left, *right)),
         TacStmt::ObjectPlace { dest, object } => {
             let (dest, object) = (*dest, *object);
-            Ok(keep(TacStmt::ObjectPlace { dest, object }, tables.is_used(dest)))
+            Ok(keep(tables.is_used(dest), TacStmt::ObjectPlace { dest, object }))
         }
         TacStmt::GlobalPlace { dest, global } => {
             let (dest, global) = (*dest, *global);
-            Ok(keep(TacStmt::GlobalPlace { dest, global }, tables.is_used(dest)))
+            Ok(keep(tables.is_used(dest), TacStmt::GlobalPlace { dest, global }))
         }
         TacStmt::Load {
             dest,
