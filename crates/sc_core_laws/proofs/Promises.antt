@@ -61,16 +61,19 @@ module _ (L M : Denotations) (promises : Promises) where
           PiecesAgree (run_in L body comp number args back s) (run_in M other comp number args back' s)
       runs_in comp number args back back' b s = by (function L comp number) (function M comp number)
           (looks comp number) where
-        by : (f g : Option Function) → Looks f g → PiecesAgree
-            (and_then (found f s) (λ f s. and_then (body number (record { comp = comp; first = length (s.memory comp) })
-            (begun comp f args s)) (λ v t. back v (done comp f (length (s.memory comp)) t))))
-            (and_then (found g s) (λ f s. and_then (other number (record { comp = comp; first = length
-                (s.memory comp) })
-            (begun comp f args s)) (λ v t. back' v (done comp f (length (s.memory comp)) t))))
-        by None None h = itself _
-        by None (Some g) h = absurd h
-        by (Some f) None h = absurd h
-        by (Some f) (Some g) h = grind (arith, h.cells, h.frame_size)
+            by : (f g : Option Function) → Looks f g → PiecesAgree
+                (and_then (found f s) (λ f s. and_then (body number (record { comp = comp; first = length (s.memory comp) })
+                (begun comp f args s)) (λ v t. back v (done comp f (length (s.memory comp)) t))))
+                (and_then (found g s) (λ f s. and_then (other number (record {
+                  comp = comp;
+                  first = length
+                      (s.memory comp);
+                })
+                (begun comp f args s)) (λ v t. back' v (done comp f (length (s.memory comp)) t))))
+            by None None h = itself _
+            by None (Some g) h = absurd h
+            by (Some f) None h = absurd h
+            by (Some f) (Some g) h = grind (arith, h.cells, h.frame_size)
 
       own_agree : (comp number : ℕ) (args : List Value) (s : State) →
           PiecesAgree (call_own L body comp number args s) (call_own M other comp number args s)
@@ -146,7 +149,7 @@ module _ (L M : Denotations) (promises : Promises) where
           (calls L body)
       calls_give body h from plain target args s =
           reached_if (Promised (promised_by L M promises from target)) (may_call L from target args)
-              (called L body from target args s)
+          (called L body from target args s)
           (Stopped (Blamed from BadType 0) s) (called_gives body h from plain target args s) tt
 
     module _ (roles : Roles) where
@@ -162,7 +165,7 @@ module _ (L M : Denotations) (promises : Promises) where
 
       does_agree : (body other : Body) → Bodies body other → (comp number first : ℕ) (s : State) →
           roles.scripted comp ≡ false → (f g : Option Function) → Meets
-              (AgreeWithPromises L M promises comp number) f g →
+          (AgreeWithPromises L M promises comp number) f g →
           PiecesAgree (and_then (found f s) (λ f s. f.does (calls L body) (record { comp = comp; first = first }) s))
           (and_then (found g s) (λ g s. g.does (calls M other) (record { comp = comp; first = first }) s))
       does_agree body other h comp number first s plain None None m = itself _

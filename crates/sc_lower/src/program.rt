@@ -10,7 +10,8 @@ use sc_base::OutOfMemory;
 use sc_core::{Program, ProgramTree, TypedFunction, TypedSection, TypedStruct};
 use sc_event::{CompId, Interfaces};
 use sc_tac::{
-    Tac, TacFn, TacFns, TacSection, TacSections, TacTree, copy_globals, copy_interfaces, copy_structs,
+    Tac, TacFn, TacFns, TacSection, TacSections, TacTree, copy_globals, copy_interfaces,
+    copy_structs,
 };
 use std::alloc::Global;
 
