@@ -6,7 +6,7 @@ use Rattle.sc_core.specs.declared.value.Value.{Value}
 use Rattle.sc_tac.specs.Prelude.{TempSet, Temps, constant_value, no_temps, with_temp}
 use Rattle.sc_tac.specs.declared.stmt.Constant.{Constant}
 use Rattle.sc_opt.specs.Pass.{is_once}
-use Rattle.sc_opt.proofs.Joined.{decide, not_same, with_here, with_other, with_same}
+use Rattle.sc_opt.proofs.Joined.{decide, not_same, with_here, with_other}
 use Rattle.sc_opt.specs.declared.facts.Assigned.{Assigned}
 use Rattle.sc_opt.specs.declared.facts.Assigned.TheVariants.{ByConstant, ByCopy}
 

@@ -10,10 +10,10 @@ use Rattle.sc_core.proofs.Induction.{Each, everywhere as everywhere_in}
 use Rattle.sc_tac.proofs.Induction.{Inside, stmt_induction}
 use Rattle.sc_tac.specs.Flow.{is_assigned_first}
 use Rattle.sc_tac.specs.Prelude.{Ahead, Reading, is_one, nothing_ahead, one_or_none, part_ahead, reading, reading_step}
-use Rattle.sc_tac.specs.Prelude.{round_first, row_first, row_fresh}
+use Rattle.sc_tac.specs.Prelude.{row_first, row_fresh}
 use Rattle.sc_tac.specs.declared.stmt.Constant.{Constant}
 use Rattle.sc_tac.specs.declared.stmt.TacOp.{TacOp}
-use Rattle.sc_tac.specs.declared.stmt.TacStmt.{TacStmt, TacStmt-F, fold-TacStmt, fold-roll-TacStmt, map-TacStmt}
+use Rattle.sc_tac.specs.declared.stmt.TacStmt.{TacStmt, TacStmt-F, fold-roll-TacStmt, map-TacStmt}
 use Rattle.sc_tac.specs.declared.stmt.TacStmt.{roll-TacStmt}
 use Rattle.sc_tac.specs.declared.stmt.TacStmt.TheOpen as tac
 use Rattle.sc_opt.specs.Pass.{all_joined, folded, assigned, assigned_step, keep_if}

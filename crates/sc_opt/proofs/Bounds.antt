@@ -10,9 +10,8 @@ use Rattle.sc_tac.proofs.Induction.{Inside, stmt_induction}
 use Rattle.sc_tac.specs.Flow.{is_assigned_first}
 use Rattle.sc_tac.specs.Prelude.{all_true, everywhere, is_one, names_own_temps, one_or_none, with_parts}
 use Rattle.sc_tac.specs.declared.stmt.TacStmt.{TacStmt, TacStmt-F, fold-TacStmt, fold-roll-TacStmt, map-TacStmt}
-use Rattle.sc_tac.specs.declared.stmt.TacStmt.{roll-TacStmt}
 use Rattle.sc_tac.specs.declared.stmt.TacStmt.TheOpen as tac
-use Rattle.sc_opt.specs.Pass.{all_joined, assigned, assigned_in, assigned_step, joined}
+use Rattle.sc_opt.specs.Pass.{assigned, assigned_in, assigned_step, joined}
 use Rattle.sc_opt.proofs.Unread.{reads_not, unread_first}
 use Rattle.sc_opt.specs.declared.facts.Assigned.{Assigned}
 use Rattle.sc_opt.specs.declared.facts.Assigned.TheVariants.{ByConstant, ByCopy, Nowhere, Otherwise}

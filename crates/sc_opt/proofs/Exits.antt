@@ -8,8 +8,7 @@ use Rattle.sc_core.specs.Meaning.{at_brace}
 use Rattle.sc_core.specs.Prelude.{Arith, Break, Calls, Continue, Exit, Here, Left, Next, Piece, Reached, Return, State}
 use Rattle.sc_core.specs.Prelude.{Stopped, all_do, and_then, choose, closed, computed, follow, in_loop, in_order}
 use Rattle.sc_core.specs.Prelude.{is_true, leave}
-use Rattle.sc_core.specs.Prelude.{elements_allocated, load, loop, rounds, stored, take, turn, turn_of}
-use Rattle.sc_core.specs.declared.value.Value.{Value}
+use Rattle.sc_core.specs.Prelude.{elements_allocated, load, rounds, take, turn}
 use Rattle.sc_tac.proofs.Induction.{Inside, stmt_induction}
 use Rattle.sc_tac.specs.Prelude.{Codes, Temps, all_true, code_does, code_function, code_step, everywhere, no_temps}
 use Rattle.sc_tac.specs.Prelude.{operated, read, read_all, returns_result, second, stmt_does, with_parts}
@@ -17,7 +16,6 @@ use Rattle.sc_core.specs.Memory.{freed, store}
 use Rattle.sc_core.specs.declared.expr.CallTarget.TheVariants.{Own, Cross, Input, Output}
 use Rattle.sc_tac.specs.declared.function.TacFnTree.{TacFnTree}
 use Rattle.sc_tac.specs.declared.stmt.TacStmt.{TacStmt, TacStmt-F, fold-TacStmt, fold-roll-TacStmt, map-TacStmt}
-use Rattle.sc_tac.specs.declared.stmt.TacStmt.{roll-TacStmt}
 use Rattle.sc_tac.specs.declared.stmt.TacStmt.TheOpen as tac
 use Rattle.sc_core_laws.proofs.Promises.{reached_if, reached_then}
 use Rattle.sc_core_laws.specs.Prelude.{IfReached, Promised}

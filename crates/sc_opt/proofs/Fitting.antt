@@ -3,7 +3,6 @@ use Rattle.std.proofs.Common.{Err, None, Ok, Option, Result, Some, [], ap, false
 use Rattle.std.proofs.Common.{ℕ, ◌&&◌, ◌∙◌, ◌≡◌, Bool}
 use Rattle.sc_base.specs.declared.op.BinaryOp.{BinaryOp}
 use Rattle.sc_base.specs.declared.op.BinaryOp.TheVariants as op
-use Rattle.sc_base.specs.declared.op.UnaryOp.TheVariants as unary
 use Rattle.sc_core.specs.Prelude.{Arith, Blocks, between, c_arith, wrapping}
 use Rattle.sc_core.specs.declared.cause.Cause.{Cause}
 use Rattle.sc_core.specs.declared.cause.Cause.TheVariants.{BadType}
@@ -12,12 +11,12 @@ use Rattle.sc_core.specs.declared.value.Value.TheVariants.{Word, Null, Ptr}
 use Rattle.sc_core_laws.specs.Prelude.{IsArithmetic}
 use Rattle.sc_core_laws.proofs.Expressions.{ArithKeeps, Keeps, alike, blamed, on_words_keep, one_keeps}
 use Rattle.sc_core_laws.proofs.Wrapping.{binary_fits, negated_fits}
-use Rattle.sc_tac.specs.Prelude.{compared, constant_value, is_comparison, is_pointer, is_unsigned, operated}
+use Rattle.sc_tac.specs.Prelude.{constant_value, is_comparison, is_pointer, is_unsigned, operated}
 use Rattle.sc_tac.specs.declared.stmt.Constant.{Constant}
 use Rattle.sc_tac.specs.declared.stmt.Constant.TheVariants as constant
 use Rattle.sc_tac.specs.declared.stmt.TacOp.{TacOp}
 use Rattle.sc_tac.specs.declared.stmt.TacOp.TheVariants as tacop
-use Rattle.sc_opt.specs.Pass.{constant_from, is_total_signed, is_total_unsigned, on_constants}
+use Rattle.sc_opt.specs.Pass.{constant_from, is_total_signed, is_total_unsigned}
 use Rattle.sc_opt.proofs.Values.{Fits}
 
 -- what an operator gives of constants doesn't depend on blocks

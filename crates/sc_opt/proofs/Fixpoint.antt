@@ -2,26 +2,23 @@
 use Rattle.std.proofs.Common.{Bool, List, None, Option, Some, [], ap, eq-eqb, false, if◌then◌else◌, inl, inr, map, not}
 use Rattle.std.proofs.Common.{refl, subst, sym, true, ℕ, ◌&&◌, ◌==◌, ◌||◌, ◌∙◌, ◌∷◌, ◌≡◌, ◌≤◌, ◌⊎◌}
 use Rattle.std.proofs.lemmas.Bool.{and_from, or_cases, or_left, or_right}
-use Rattle.std.specs.List.{list_any}
 use Rattle.sc_base.proofs.Bools.{and_first, and_rest}
 use Rattle.sc_core.proofs.Induction.{Each, everywhere as everywhere_in}
 use Rattle.sc_tac.proofs.Induction.{Inside, stmt_induction}
-use Rattle.sc_tac.specs.Parts.{parts, temps_read}
 use Rattle.sc_tac.specs.Prelude.{all_true, everywhere, is_one, one_or_none, some_hold, weight, with_parts}
 use Rattle.sc_tac.specs.declared.stmt.Constant.{Constant}
 use Rattle.sc_tac.specs.declared.stmt.TacStmt.{TacStmt, TacStmt-F, fold-TacStmt, fold-roll-TacStmt, map-TacStmt}
-use Rattle.sc_tac.specs.declared.stmt.TacStmt.{roll-TacStmt}
 use Rattle.sc_tac.specs.declared.stmt.TacStmt.TheOpen as tac
-use Rattle.sc_opt.specs.Pass.{all_joined, copies_one, folded, assigned, assigned_in, assigned_step}
+use Rattle.sc_opt.specs.Pass.{copies_one, folded, assigned, assigned_in, assigned_step}
 use Rattle.sc_opt.specs.Pass.{is_lean, is_kept, is_none, is_once, is_read, is_total, always_word, lean, reads_temp}
 use Rattle.sc_opt.specs.Pass.{one_pass}
-use Rattle.sc_opt.specs.Pass.{reads_here, is_read_by, reads_some, reads_unless, reads_within, copy_source, table_of}
+use Rattle.sc_opt.specs.Pass.{is_read_by, reads_some, reads_unless, reads_within, copy_source, table_of}
 use Rattle.sc_opt.proofs.Joined.{AtMost, below_first, below_rest}
 use Rattle.sc_opt.proofs.Falling.{all_left}
 use Rattle.sc_opt.proofs.Lean.{at_home, no_copies}
 use Rattle.sc_opt.proofs.Copies.{all_sourced, lower}
 use Rattle.sc_opt.specs.declared.facts.Assigned.{Assigned}
-use Rattle.sc_opt.specs.declared.facts.Assigned.TheVariants.{ByCopy, Nowhere, Several}
+use Rattle.sc_opt.specs.declared.facts.Assigned.TheVariants.{ByCopy, Nowhere}
 
 -- WHAT IS USED IS READ
 module _ (table : ℕ → Assigned) (source : ℕ → ℕ) (home : (t : ℕ) → source t ≡ t) (x : ℕ) where

@@ -3,21 +3,19 @@ use Rattle.std.proofs.Common.{Bool, List, None, Option, Some, [], ap, inl, inr, 
 use Rattle.std.proofs.Common.{◌==◌, ◌∙◌, ◌≡◌}
 use Rattle.std.proofs.Common.{not}
 use Rattle.sc_base.proofs.Bools.{and_first, and_rest}
-use Rattle.sc_core.specs.Prelude.{Arith, Calls, Exit, Here, Left, Piece, Reached, State, Stopped, and_then, closed}
+use Rattle.sc_core.specs.Prelude.{Arith, Calls, Here, Left, Piece, Reached, State, Stopped, and_then, closed}
 use Rattle.sc_core.specs.declared.expr.CallTarget.{CallTarget}
-use Rattle.sc_core.specs.declared.run.RunEnd.{RunEnd}
 use Rattle.sc_core.specs.declared.value.Value.{Value}
-use Rattle.sc_core_laws.specs.Prelude.{CallsAgree, PiecesAgree, piece_without_line, without_line}
+use Rattle.sc_core_laws.specs.Prelude.{CallsAgree, PiecesAgree, piece_without_line}
 use Rattle.sc_tac.specs.Flow.{is_assigned_first}
 use Rattle.sc_tac.specs.Prelude.{Temps, code_does, code_function, everywhere, nothing_ahead, nothing_live, no_temps}
 use Rattle.sc_tac.specs.Prelude.{reading, row_first}
 use Rattle.sc_tac.specs.declared.function.TacFnTree.{TacFnTree}
-use Rattle.sc_tac.specs.declared.stmt.TacStmt.{TacStmt}
 use Rattle.sc_opt.specs.Pass.{is_read, always_word, one_pass, copy_source, table_of, takes_promised}
 use Rattle.sc_opt.specs.Optimised.{changed_function}
 use Rattle.sc_opt.proofs.Kept.{code_kept}
 use Rattle.sc_opt.proofs.Agreement.{begun}
-use Rattle.sc_opt.proofs.Related.{Follows, Related}
+use Rattle.sc_opt.proofs.Related.{Related}
 use Rattle.sc_opt.proofs.Copies.{all_sourced}
 use Rattle.sc_opt.proofs.UsedReads.{all_uses}
 use Rattle.sc_opt.proofs.Values.{Fits}

@@ -14,7 +14,7 @@ use Rattle.sc_tac.specs.declared.function.TacFnTree.{TacFnTree}
 use Rattle.sc_tac.specs.declared.stmt.Constant.{Constant}
 use Rattle.sc_tac.specs.declared.stmt.TacStmt.{TacStmt, TacStmt-F}
 use Rattle.sc_opt.specs.Optimised.{changed_function}
-use Rattle.sc_opt.specs.Pass.{always_word, assigned_in, copy_source, is_read, one_pass, pass, table_of}
+use Rattle.sc_opt.specs.Pass.{always_word, copy_source, is_read, one_pass, table_of}
 use Rattle.sc_opt.specs.declared.facts.Assigned.{Assigned}
 use Rattle.sc_opt.specs.declared.facts.Assigned.TheVariants.{ByConstant}
 use Rattle.sc_opt.proofs.AssignedFirst.{stays_assigned}

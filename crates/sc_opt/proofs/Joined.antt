@@ -2,7 +2,6 @@
 use Rattle.std.proofs.Common.{Bool, List, None, Option, Some, [], ap, arith, eq-eqb, eqb-true, false, if◌then◌else◌}
 use Rattle.std.proofs.Common.{inl, inr, not, refl, subst, sym, true, ℕ, ◌&&◌, ◌==◌, ◌||◌, ◌∙◌, ◌∷◌, ◌≡◌, ◌⊎◌}
 use Rattle.std.proofs.lemmas.Bool.{and_from}
-use Rattle.std.proofs.lemmas.Grind.{common_steps}
 use Rattle.sc_core.specs.declared.value.Value.{Value}
 use Rattle.sc_tac.specs.Prelude.{Temps, with_temp}
 use Rattle.sc_opt.specs.Pass.{is_once, joined}

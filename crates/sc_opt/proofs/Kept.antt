@@ -3,26 +3,24 @@ use Rattle.std.proofs.Common.{Bool, Err, List, None, Ok, Option, Result, Some, [
 use Rattle.std.proofs.Common.{if◌then◌else◌, inl, inr, is_some, map, not, refl, subst, suc, sym, true, ℕ, ◌&&◌, ◌==◌}
 use Rattle.std.proofs.Common.{◌+◌, ◌||◌, ◌∙◌, ◌∷◌, ◌≡◌, ◌⊎◌}
 use Rattle.std.proofs.lemmas.Bool.{or_left, or_right}
-use Rattle.std.specs.List.{list_all}
 use Rattle.std.specs.Option.{option_map}
 use Rattle.sc_base.proofs.Bools.{and_first, and_rest}
 use Rattle.sc_core.proofs.Induction.{Each, everywhere}
-use Rattle.sc_core.specs.Prelude.{Arith, Blocks, Break, Calls, Continue, Exit, Here, Left, Next, Piece, Reached}
-use Rattle.sc_core.specs.Prelude.{Return, State, Stopped, all_do, and_then, choose, computed, follow, in_order, is_true}
+use Rattle.sc_core.specs.Prelude.{Arith, Blocks, Calls, Here, Left, Next, Piece, Reached}
+use Rattle.sc_core.specs.Prelude.{Return, State, all_do, and_then, choose, computed, follow, in_order, is_true}
 use Rattle.sc_core.specs.Combinators.{elements_allocated, released}
-use Rattle.sc_core.specs.Prelude.{is_word, leave, load, loop, rounds, stored, with_memory}
+use Rattle.sc_core.specs.Prelude.{is_word, leave, load, stored, with_memory}
 use Rattle.sc_core.specs.Memory.{freed, store}
-use Rattle.sc_core.specs.declared.cause.Cause.{Cause}
 use Rattle.sc_core.specs.declared.expr.CallTarget.{CallTarget}
 use Rattle.sc_core.specs.declared.expr.CallTarget.TheVariants.{Own, Cross, Input, Output}
 use Rattle.sc_core.specs.declared.value.Value.{Value}
 use Rattle.sc_core_laws.specs.Prelude.{PiecesAgree}
 use Rattle.sc_tac.proofs.Induction.{Inside, stmt_induction}
-use Rattle.sc_tac.specs.Prelude.{Ahead, Codes, Lives, Reading, TempSet, Temps, ahead_at, all_true, call_does, code_does}
+use Rattle.sc_tac.specs.Prelude.{Codes, Lives, Reading, TempSet, Temps, ahead_at, all_true, call_does}
 use Rattle.sc_tac.specs.Prelude.{code_step, constant_value, gets, is_one, known, no_temps, nothing, one_or_none}
 use Rattle.sc_tac.specs.Prelude.{op_does}
-use Rattle.sc_tac.specs.Prelude.{operated, part_ahead, part_lives, read, read_all, reading, reading_step, received}
-use Rattle.sc_tac.specs.Prelude.{return_does, row_first, row_fresh, second, start_of, stmt_does, store_does, with_parts}
+use Rattle.sc_tac.specs.Prelude.{operated, part_lives, read, reading, reading_step, received}
+use Rattle.sc_tac.specs.Prelude.{row_first, row_fresh, second, start_of, stmt_does, with_parts}
 use Rattle.sc_tac.specs.Prelude.{with_temp}
 use Rattle.sc_tac.specs.declared.stmt.Constant.{Constant}
 use Rattle.sc_tac.specs.declared.stmt.Constant.TheVariants as constant
@@ -31,12 +29,12 @@ use Rattle.sc_tac.specs.declared.stmt.TacStmt.{TacStmt, TacStmt-F, fold-TacStmt,
 use Rattle.sc_tac.specs.declared.stmt.TacStmt.{roll-TacStmt}
 use Rattle.sc_tac.specs.declared.stmt.TacStmt.TheOpen as tac
 use Rattle.sc_opt.specs.Pass.{all_joined, all_used, constant_of, folded, assigned}
-use Rattle.sc_opt.specs.Pass.{is_word_constant, folded_from, assigned_step, gives_word, is_once, is_total, joined}
+use Rattle.sc_opt.specs.Pass.{is_word_constant, folded_from, assigned_step, gives_word, is_once, is_total}
 use Rattle.sc_opt.specs.Pass.{keep_if, assigns_words}
 use Rattle.sc_opt.specs.Pass.{on_constants, operator_code, pass, pass_step, present, reads_used, right_holds_word}
 use Rattle.sc_opt.specs.Pass.{second_constant}
 use Rattle.sc_opt.specs.Pass.{takes_promised, unless_folded, with_second}
-use Rattle.sc_opt.proofs.Joined.{AtMost, below_first, below_rest, decide, live_before, live_behind, never_both}
+use Rattle.sc_opt.proofs.Joined.{AtMost, below_first, below_rest, live_before, live_behind, never_both}
 use Rattle.sc_opt.proofs.Joined.{not_same}
 use Rattle.sc_opt.proofs.Joined.{one_part}
 use Rattle.sc_opt.proofs.Agreement.{AreSources, Moved, begun, less}
@@ -44,7 +42,7 @@ use Rattle.sc_opt.proofs.Related.{At, Assignments, Follows, NotYet, AddsOnly, ac
 use Rattle.sc_opt.proofs.Related.{follows_rounds, follows_within}
 use Rattle.sc_opt.proofs.Values.{Fits, load_word, total_gives, words_computed}
 use Rattle.sc_opt.proofs.Steps.{computed_related, does_option, either, gone, no_constant, pieces_then}
-use Rattle.sc_opt.proofs.Steps.{plain_source, read_here, read_then, read_there, reads, reads_all, rolled, stays, both}
+use Rattle.sc_opt.proofs.Steps.{plain_source, read_then, reads_all, rolled, stays, both}
 use Rattle.sc_opt.proofs.Steps.{piece_related, unread}
 use Rattle.sc_opt.specs.declared.facts.Assigned.{Assigned}
 use Rattle.sc_opt.specs.declared.facts.Assigned.TheVariants.{ByConstant, ByCopy, Nowhere, Otherwise, Several}

@@ -4,16 +4,11 @@ use Rattle.std.proofs.Common.{inl}
 use Rattle.std.proofs.Common.{inr, ltb-false, ltb-true, map, nat_lt, not, refl, subst, suc, sym, true, zero, ℕ, ◌&&◌}
 use Rattle.std.proofs.Common.{◌+◌, ◌<◌, ◌==◌, ◌||◌, ◌∙◌}
 use Rattle.std.proofs.Common.{◌∷◌, ◌≡◌, ◌≤◌, ◌⊎◌}
-use Rattle.std.proofs.lemmas.Bool.{and_from}
-use Rattle.sc_base.proofs.Bools.{and_first, and_rest}
-use Rattle.sc_core.proofs.Induction.{Each, everywhere as everywhere_in}
-use Rattle.sc_tac.proofs.Induction.{Inside, stmt_induction}
-use Rattle.sc_tac.specs.Prelude.{all_true, everywhere, with_parts}
-use Rattle.sc_tac.specs.declared.stmt.TacStmt.{TacStmt, TacStmt-F, fold-TacStmt, fold-roll-TacStmt, map-TacStmt}
-use Rattle.sc_tac.specs.declared.stmt.TacStmt.{roll-TacStmt}
-use Rattle.sc_tac.specs.declared.stmt.TacStmt.TheOpen as tac
-use Rattle.sc_opt.specs.Pass.{all_joined, copies_one, assigned, assigned_in}
-use Rattle.sc_opt.specs.Pass.{assigned_step, is_kept, is_once, joined, source_by, copy_source, copy_sources}
+use Rattle.sc_base.proofs.Bools.{and_first}
+use Rattle.sc_tac.specs.Prelude.{everywhere}
+use Rattle.sc_tac.specs.declared.stmt.TacStmt.{TacStmt}
+use Rattle.sc_opt.specs.Pass.{copies_one, assigned_in}
+use Rattle.sc_opt.specs.Pass.{is_kept, is_once, source_by, copy_source, copy_sources}
 use Rattle.sc_opt.proofs.Joined.{not_same}
 use Rattle.sc_opt.proofs.Found.{Found, found_in}
 use Rattle.sc_opt.proofs.Agreement.{AreSources, Moved}

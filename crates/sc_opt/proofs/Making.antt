@@ -6,12 +6,12 @@ use Rattle.std.proofs.Common.{ℕ, ◌&&◌, ◌++◌, ◌==◌, ◌||◌, ◌�
 use Rattle.std.specs.Option.{option_map}
 use Rattle.sc_tac.specs.declared.stmt.Constant.{Constant}
 use Rattle.sc_tac.specs.declared.stmt.TacOp.{TacOp}
-use Rattle.sc_tac.specs.declared.stmt.TacStmt.{TacStmt, TacStmt-F, fold-TacStmt, fold-roll-TacStmt, map-TacStmt}
+use Rattle.sc_tac.specs.declared.stmt.TacStmt.{TacStmt, TacStmt-F, fold-roll-TacStmt, map-TacStmt}
 use Rattle.sc_tac.specs.declared.stmt.TacStmt.{roll-TacStmt}
 use Rattle.sc_tac.specs.declared.stmt.TacStmt.TheOpen as tac
 use Rattle.sc_tac.specs.declared.stmt.TacStmt.TheVariants as emit
 use Rattle.sc_opt.proofs.Stepping.{parted_of}
-use Rattle.sc_opt.specs.Pass.{folded, is_total, keep_if, operator_code, pass, pass_step, present}
+use Rattle.sc_opt.specs.Pass.{folded, is_total, keep_if, operator_code, pass_step, present}
 use Rattle.sc_opt.specs.Tables.{assigned_at, copy_by, holds_word_at, keep_when, operator_by, operator_from, pass_by}
 use Rattle.sc_opt.specs.Tables.{passed_by, source_at, used_at}
 use Rattle.sc_opt.specs.declared.pass.Tables.{Tables}

@@ -3,11 +3,9 @@ use Rattle.std.proofs.Common.{Bool, List, None, Option, Some, [], ap, ap₂, fal
 use Rattle.std.proofs.Common.{slice_get}
 use Rattle.std.proofs.Common.{drop, get_or, length, subst, ◌+◌, ◌<◌, ◌≤◌}
 use Rattle.std.proofs.Common.{sym, true, ℕ, ◌&&◌, ◌==◌, ◌||◌, ◌∙◌, ◌∷◌, ◌≡◌}
-use Rattle.sc_tac.specs.Prelude.{one_or_none, some_hold}
-use Rattle.sc_tac.specs.Parts.{temps_read}
-use Rattle.sc_tac.specs.declared.stmt.Constant.{Constant}
+use Rattle.sc_tac.specs.Prelude.{one_or_none}
 use Rattle.sc_tac.specs.declared.stmt.TacOp.{TacOp}
-use Rattle.sc_tac.specs.declared.stmt.TacStmt.{TacStmt, TacStmt-F, fold-TacStmt, fold-roll-TacStmt, map-TacStmt}
+use Rattle.sc_tac.specs.declared.stmt.TacStmt.{TacStmt, TacStmt-F, fold-roll-TacStmt, map-TacStmt}
 use Rattle.sc_tac.specs.declared.stmt.TacStmt.{roll-TacStmt}
 use Rattle.sc_tac.specs.declared.stmt.TacStmt.TheOpen as tac
 use Rattle.sc_tac.specs.declared.stmt.TacStmt.TheVariants as emit

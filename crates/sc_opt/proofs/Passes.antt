@@ -2,14 +2,12 @@
 use Rattle.std.proofs.Common.{Bool, List, None, Option, Some, [], ap, arith, eq-eqb, eqb-true, false, if◌then◌else◌}
 use Rattle.std.proofs.Common.{is_some, map}
 use Rattle.std.proofs.Common.{not, refl, subst, suc, sym, true, zero, ℕ, ◌+◌, ◌<◌, ◌==◌, ◌∙◌, ◌≡◌, ◌≤◌}
-use Rattle.sc_event.specs.declared.interface.Interfaces.{Interfaces}
-use Rattle.sc_core.specs.Prelude.{Arith, Calls, Here, Piece, Reached, State, Stopped}
+use Rattle.sc_core.specs.Prelude.{Arith, Calls, Here, Piece, Reached, State}
 use Rattle.sc_core.specs.declared.expr.CallTarget.{CallTarget}
 use Rattle.sc_core.specs.declared.value.Value.{Value}
-use Rattle.sc_core_laws.specs.Prelude.{CallsAgree, PiecesAgree, piece_without_line}
+use Rattle.sc_core_laws.specs.Prelude.{CallsAgree, PiecesAgree}
 use Rattle.sc_tac.specs.Prelude.{IsFunction, branches, code_function, everywhere, weight}
 use Rattle.sc_tac.specs.declared.function.TacFnTree.{TacFnTree}
-use Rattle.sc_tac.specs.declared.program.TacSection.{TacSection}
 use Rattle.sc_tac.specs.declared.stmt.TacStmt.{TacStmt, TacStmt-F}
 use Rattle.sc_opt.specs.Optimised.{changed_function, optimised, optimised_within, statements}
 use Rattle.sc_opt.specs.Pass.{always_word, copy_source, is_read, lean, one_pass, table_of, takes_promised}
@@ -22,7 +20,6 @@ use Rattle.sc_opt.proofs.Function.{function_kept}
 use Rattle.sc_opt.proofs.FunctionRules.{each_first, pass_keeps, pass_keeps_rules}
 use Rattle.sc_opt.proofs.Instances.{cross_calls_stay, globals_stay, imports_stay, own_calls_stay, promises_stay}
 use Rattle.sc_opt.proofs.ProgramRules.{KeepsStatements}
-use Rattle.sc_opt.proofs.Rules.{Stays}
 use Rattle.sc_opt.proofs.Unchanged.{nothing_changed}
 use Rattle.sc_opt.proofs.Values.{Fits}
 

@@ -11,33 +11,30 @@ use Rattle.std.specs.Option.{option_map}
 use Rattle.std.specs.Prelude.{slice_index_or}
 use Rattle.sc_base.proofs.Bools.{and_first, and_rest}
 use Rattle.sc_event.specs.Prelude.{export_at}
-use Rattle.sc_event.specs.declared.event.Event.{Event}
 use Rattle.sc_event.specs.declared.interface.Interfaces.{Interfaces}
 use Rattle.sc_event.specs.declared.interface.Proto.{Proto}
 use Rattle.sc_event.specs.declared.row.Entry.{Entry}
 use Rattle.sc_core.proofs.Induction.{Each, everywhere as everywhere_in}
 use Rattle.sc_core.specs.Calls.{function}
-use Rattle.sc_core.specs.Prelude.{Arith, Blocks, Calls, Denotations, Function, Memory, Roles, State, c_arith, roles_in}
+use Rattle.sc_core.specs.Prelude.{Arith, Denotations, Roles, c_arith, roles_in}
 use Rattle.sc_core.specs.Prelude.{run_by, run_step, scripted_step, wrapping}
 use Rattle.sc_core.specs.declared.expr.CallTarget.{CallTarget}
 use Rattle.sc_core.specs.declared.expr.CallTarget.TheVariants.{Cross, Input, Own}
-use Rattle.sc_core.specs.declared.value.Value.{Value}
 use Rattle.sc_core_laws.proofs.Promises.{promising_run_alike}
 use Rattle.sc_core_laws.specs.Prelude.{AgreeWithPromises, DenotationsAgreeWithPromises, IfReached, Meets, Promised}
 use Rattle.sc_core_laws.specs.Prelude.{Promises}
 use Rattle.sc_core_laws.specs.Prelude.{RunsAgree, promised_by}
 use Rattle.sc_core_laws.specs.Promises.{has_result}
 use Rattle.sc_tac.proofs.Induction.{Inside, stmt_induction}
-use Rattle.sc_tac.specs.Prelude.{IsFunction, all_true, calls_exports, calls_own, code_denotations, code_function}
+use Rattle.sc_tac.specs.Prelude.{all_true, calls_exports, calls_own, code_denotations, code_function}
 use Rattle.sc_tac.specs.Prelude.{code_functions, code_globals, cross_call_fits, everywhere, first_blocks}
 use Rattle.sc_tac.specs.Prelude.{function_entered}
-use Rattle.sc_tac.specs.Prelude.{in_section, numbered, own_call_fits, passes_words, returns_result, same_entry}
+use Rattle.sc_tac.specs.Prelude.{in_section, numbered, own_call_fits, passes_words, same_entry}
 use Rattle.sc_tac.specs.Prelude.{with_parts}
 use Rattle.sc_tac.specs.declared.function.TacFnTree.{TacFnTree}
 use Rattle.sc_tac.specs.declared.program.TacSection.{TacSection}
 use Rattle.sc_tac.specs.declared.program.TacTree.{TacTree}
 use Rattle.sc_tac.specs.declared.stmt.TacStmt.{TacStmt, TacStmt-F, fold-TacStmt, fold-roll-TacStmt, map-TacStmt}
-use Rattle.sc_tac.specs.declared.stmt.TacStmt.{roll-TacStmt}
 use Rattle.sc_tac.specs.declared.stmt.TacStmt.TheOpen as tac
 use Rattle.sc_opt.specs.Laws.{KeepsRules, RunsAlike}
 use Rattle.sc_opt.specs.Optimised.{optimised_function, optimised_program, optimised_section}

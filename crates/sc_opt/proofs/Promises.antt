@@ -5,11 +5,11 @@ use Rattle.std.proofs.Common.{◌∷◌, ◌≡◌}
 use Rattle.std.proofs.lemmas.Option.{same_Some, slice_get-map}
 use Rattle.std.specs.Option.{option_map}
 use Rattle.sc_core_laws.specs.Prelude.{Meets}
-use Rattle.sc_tac.specs.Prelude.{IsFunction, weight}
+use Rattle.sc_tac.specs.Prelude.{IsFunction}
 use Rattle.sc_tac.specs.declared.function.TacFnTree.{TacFnTree}
 use Rattle.sc_tac.specs.declared.program.TacSection.{TacSection}
 use Rattle.sc_tac.specs.declared.program.TacTree.{TacTree}
-use Rattle.sc_opt.specs.Laws.{EachFunction, KeepsFunction, KeepsRules, KeepsSection, OptimiserKeepsMeaning}
+use Rattle.sc_opt.specs.Laws.{EachFunction, KeepsFunction, KeepsSection, OptimiserKeepsMeaning}
 use Rattle.sc_opt.specs.Laws.{OptimiserKeepsRules, OptimiserKeepsShape, ResultsAreLean}
 use Rattle.sc_opt.specs.Optimised.{optimised, optimised_function, optimised_program, optimised_section}
 use Rattle.sc_opt.specs.Pass.{lean}

@@ -2,12 +2,12 @@
 use Rattle.std.proofs.Common.{Bool, List, None, Option, Some, [], ap, false, if◌then◌else◌, inl, inr, refl, subst, suc}
 use Rattle.std.proofs.Common.{sym, true, zero, ℕ, ◌∙◌, ◌∷◌, ◌≡◌, ◌⊎◌}
 use Rattle.sc_core.specs.Prelude.{Break, Continue, Exit, Left, Next, Piece, Reached, Return, State, Stopped, and_then}
-use Rattle.sc_core.specs.Prelude.{follow, in_loop, in_order, leave, rounds, take, turn, turn_of}
+use Rattle.sc_core.specs.Prelude.{follow, in_loop, in_order, rounds, take, turn, turn_of}
 use Rattle.sc_core.specs.declared.run.RunEnd.{RunEnd}
 use Rattle.sc_core_laws.specs.Prelude.{without_line}
 use Rattle.sc_tac.specs.Prelude.{Codes, Lives, TempSet, Temps, no_temps, nothing, part_lives}
 use Rattle.sc_opt.specs.Pass.{is_once}
-use Rattle.sc_opt.proofs.Agreement.{TempsAgree, begun}
+use Rattle.sc_opt.proofs.Agreement.{TempsAgree}
 use Rattle.sc_opt.specs.declared.facts.Assigned.{Assigned}
 use Rattle.sc_opt.specs.declared.facts.Assigned.TheVariants.{Nowhere}
 

@@ -12,7 +12,7 @@ use Rattle.sc_tac.specs.declared.stmt.TacOp.{TacOp}
 use Rattle.sc_tac.specs.declared.stmt.TacStmt.{TacStmt, TacStmt-F, fold-TacStmt, fold-roll-TacStmt, map-TacStmt}
 use Rattle.sc_tac.specs.declared.stmt.TacStmt.{roll-TacStmt}
 use Rattle.sc_tac.specs.declared.stmt.TacStmt.TheOpen as tac
-use Rattle.sc_opt.specs.Pass.{folded, is_total, keep_if, operator_code, pass, pass_step, present}
+use Rattle.sc_opt.specs.Pass.{folded, keep_if, operator_code, pass, pass_step, present}
 use Rattle.sc_opt.specs.declared.facts.Assigned.{Assigned}
 
 -- a statement that the pass leaves as it is, where it doesn't go

@@ -3,29 +3,25 @@ use Rattle.std.proofs.Common.{Bool, Err, List, None, Ok, Option, Result, Some, [
 use Rattle.std.proofs.Common.{if◌then◌else◌, inl, inr, is_some, map, not, refl, subst, sym, true, ℕ, ◌&&◌, ◌==◌, ◌||◌}
 use Rattle.std.proofs.Common.{◌∙◌, ◌∷◌, ◌≡◌, ◌⊎◌}
 use Rattle.std.proofs.lemmas.Bool.{or_left, or_right}
-use Rattle.std.specs.Option.{option_map}
 use Rattle.sc_base.proofs.Bools.{and_first, and_rest}
-use Rattle.sc_core.specs.Prelude.{Arith, Blocks, Calls, Exit, Here, Left, Next, Piece, Reached, Return, State, Stopped}
-use Rattle.sc_core.specs.Prelude.{and_then, computed, is_word, leave, load, stored}
+use Rattle.sc_core.specs.Prelude.{Arith, Calls, Here, Left, Next, Piece, Reached, State, Stopped}
+use Rattle.sc_core.specs.Prelude.{and_then, computed, is_word, leave}
 use Rattle.sc_core.specs.declared.cause.Cause.{Cause}
-use Rattle.sc_core.specs.declared.expr.CallTarget.{CallTarget}
-use Rattle.sc_core.specs.declared.run.RunEnd.{RunEnd}
 use Rattle.sc_core.specs.declared.value.Value.{Value}
-use Rattle.sc_core_laws.specs.Prelude.{PiecesAgree, piece_without_line, without_line}
-use Rattle.sc_tac.specs.Prelude.{Codes, Lives, TempSet, Temps, call_does, code_step, constant_value, gets, is_one}
+use Rattle.sc_core_laws.specs.Prelude.{PiecesAgree, without_line}
+use Rattle.sc_tac.specs.Prelude.{Codes, Lives, TempSet, Temps, code_step, constant_value, is_one}
 use Rattle.sc_tac.specs.Prelude.{known}
-use Rattle.sc_tac.specs.Prelude.{one_or_none, op_does, operated, read, read_all, received, return_does, second}
-use Rattle.sc_tac.specs.Prelude.{stmt_does, store_does, with_temp}
+use Rattle.sc_tac.specs.Prelude.{read, read_all}
+use Rattle.sc_tac.specs.Prelude.{stmt_does, with_temp}
 use Rattle.sc_tac.specs.declared.stmt.Constant.{Constant}
-use Rattle.sc_tac.specs.declared.stmt.TacOp.{TacOp}
 use Rattle.sc_tac.specs.declared.stmt.TacStmt.{TacStmt, TacStmt-F, fold-roll-TacStmt, map-TacStmt, roll-TacStmt}
 use Rattle.sc_opt.specs.Pass.{all_used, is_once, keep_if}
-use Rattle.sc_opt.proofs.Joined.{AtMost, decide, not_same, with_here, with_other}
-use Rattle.sc_opt.proofs.Agreement.{Gains, AreSources, Moved, TempsAgree, Reads, gained, less, reads_of}
-use Rattle.sc_opt.proofs.Related.{At, Assignments, Ends, Follows, NotYet, AddsOnly, Lands, Leaves, across}
+use Rattle.sc_opt.proofs.Joined.{AtMost, decide, with_here, with_other}
+use Rattle.sc_opt.proofs.Agreement.{Gains, AreSources, Moved, Reads, gained, less, reads_of}
+use Rattle.sc_opt.proofs.Related.{At, Assignments, Follows, AddsOnly, Lands, across}
 use Rattle.sc_opt.proofs.Related.{follows_along}
 use Rattle.sc_opt.specs.declared.facts.Assigned.{Assigned}
-use Rattle.sc_opt.specs.declared.facts.Assigned.TheVariants.{ByConstant, ByCopy, Nowhere, Otherwise, Several}
+use Rattle.sc_opt.specs.declared.facts.Assigned.TheVariants.{ByConstant, ByCopy, Nowhere, Several}
 
 -- a statement, unless it went
 abbrev pub does_option : Arith → Here → Calls → Option TacStmt → Codes

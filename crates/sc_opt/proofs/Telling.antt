@@ -4,7 +4,7 @@ use Rattle.std.proofs.Common.{ltb-true, map, nat_lt, not, refl, replicate, slice
 use Rattle.std.proofs.Common.{◌&&◌}
 use Rattle.std.proofs.Common.{◌++◌, ◌+◌, ◌<◌, ◌==◌, ◌||◌, ◌∙◌, ◌∷◌, ◌≡◌, ◌≤◌}
 use Rattle.std.proofs.lemmas.Bool.{and_from}
-use Rattle.std.specs.List.{list_all, list_any, range_with_len}
+use Rattle.std.specs.List.{list_all, range_with_len}
 use Rattle.std.specs.Option.{option_map, unwrap_or}
 use Rattle.sc_base.proofs.Bools.{and_first, and_rest}
 use Rattle.sc_core.proofs.Induction.{Each, everywhere as everywhere_in}
@@ -12,7 +12,6 @@ use Rattle.sc_tac.proofs.Induction.{Inside, stmt_induction}
 use Rattle.sc_tac.specs.Prelude.{all_true, everywhere, is_one, names_own_temps, one_or_none, some_hold, with_parts}
 use Rattle.sc_tac.specs.declared.stmt.Constant.{Constant}
 use Rattle.sc_tac.specs.declared.stmt.TacStmt.{TacStmt, TacStmt-F, fold-TacStmt, fold-roll-TacStmt, map-TacStmt}
-use Rattle.sc_tac.specs.declared.stmt.TacStmt.{roll-TacStmt}
 use Rattle.sc_tac.specs.declared.stmt.TacStmt.TheOpen as tac
 use Rattle.sc_opt.specs.Pass.{always_word, assigned_in, assigns_words, copies_one, copy_source, folded, is_read}
 use Rattle.sc_opt.specs.Pass.{one_pass}
@@ -21,7 +20,6 @@ use Rattle.sc_opt.specs.Tables.{Tell, assigned_at, holds_word_at, marked, nothin
 use Rattle.sc_opt.specs.Tables.{source_at}
 use Rattle.sc_opt.specs.Tables.{used_at, with_fact}
 use Rattle.sc_opt.specs.declared.facts.Assigned.{Assigned}
-use Rattle.sc_opt.specs.declared.facts.Assigned.TheVariants.{Nowhere}
 use Rattle.sc_opt.specs.declared.facts.Facts.{Facts}
 use Rattle.sc_opt.specs.declared.pass.Tables.{Tables}
 use Rattle.sc_opt.proofs.Bounds.{assigned_nowhere, back, differs, front, not_one}

@@ -2,14 +2,13 @@
 use Rattle.std.proofs.Common.{Bool, List, None, Option, Some, [], ap, eq-eqb, false, map, not, refl, sym, true, ℕ, ◌&&◌}
 use Rattle.std.proofs.Common.{◌==◌, ◌||◌, ◌∙◌, ◌∷◌, ◌≡◌}
 use Rattle.std.proofs.lemmas.Bool.{and_from, or_left, or_right}
-use Rattle.std.specs.List.{list_all, list_any}
+use Rattle.std.specs.List.{list_all}
 use Rattle.sc_core.proofs.Induction.{Each, everywhere as everywhere_in}
 use Rattle.sc_tac.proofs.Induction.{Inside, stmt_induction}
-use Rattle.sc_tac.specs.Parts.{parts, temps_read}
-use Rattle.sc_tac.specs.Prelude.{all_true, everywhere, one_or_none, some_hold, with_parts}
+use Rattle.sc_tac.specs.Parts.{parts}
+use Rattle.sc_tac.specs.Prelude.{all_true, one_or_none, some_hold, with_parts}
 use Rattle.sc_tac.specs.declared.stmt.Constant.{Constant}
 use Rattle.sc_tac.specs.declared.stmt.TacStmt.{TacStmt, TacStmt-F, fold-TacStmt, fold-roll-TacStmt, map-TacStmt}
-use Rattle.sc_tac.specs.declared.stmt.TacStmt.{roll-TacStmt}
 use Rattle.sc_tac.specs.declared.stmt.TacStmt.TheOpen as tac
 use Rattle.sc_opt.specs.Pass.{all_used, folded, is_read, reads_here, reads_some, reads_unless, reads_used}
 use Rattle.sc_opt.specs.Pass.{reads_within, unless_folded}

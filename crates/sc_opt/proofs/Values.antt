@@ -10,19 +10,18 @@ use Rattle.sc_base.specs.declared.op.UnaryOp.TheVariants as unary
 use Rattle.sc_event.specs.declared.interface.Scalar.TheVariants.{Int, Unsigned}
 use Rattle.sc_core.specs.Prelude.{Arith, Blocks, between, is_word, load}
 use Rattle.sc_core.specs.Memory.{bind, cells_at, loaded}
-use Rattle.sc_core.specs.Value.{apart, as_word, in_elements, is_zero, of_bool, on_word, ordered, same_place, truth}
+use Rattle.sc_core.specs.Value.{apart, as_word, in_elements, of_bool, on_word, ordered, same_place}
 use Rattle.sc_core.specs.declared.cause.Cause.{Cause}
 use Rattle.sc_core.specs.declared.cause.Cause.TheVariants.{BadType, Dangling}
 use Rattle.sc_core.specs.declared.value.Cell.{Cell}
 use Rattle.sc_core.specs.declared.value.Cell.TheVariants as cell
 use Rattle.sc_core.specs.declared.value.Value.{Value}
 use Rattle.sc_core.specs.declared.value.Value.TheVariants.{Word, Null, Ptr}
-use Rattle.sc_tac.specs.Prelude.{compared, constant_value, is_comparison, is_pointer, is_unsigned, operated}
+use Rattle.sc_tac.specs.Prelude.{constant_value, is_comparison, is_pointer, is_unsigned, operated}
 use Rattle.sc_tac.specs.declared.stmt.Constant.{Constant}
-use Rattle.sc_tac.specs.declared.stmt.Constant.TheVariants as constant
 use Rattle.sc_tac.specs.declared.stmt.TacOp.{TacOp}
 use Rattle.sc_tac.specs.declared.stmt.TacOp.TheVariants as tacop
-use Rattle.sc_opt.specs.Pass.{constant_from, gives_word, is_total_signed, is_total_unsigned, is_total, on_constants}
+use Rattle.sc_opt.specs.Pass.{gives_word, is_total_signed, is_total_unsigned, is_total, on_constants}
 use Rattle.sc_opt.specs.Pass.{right_holds_word}
 use Rattle.sc_opt.specs.declared.facts.Assigned.{Assigned}
 

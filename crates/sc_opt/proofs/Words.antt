@@ -5,14 +5,14 @@ use Rattle.sc_base.specs.declared.op.BinaryOp.{BinaryOp}
 use Rattle.sc_base.specs.declared.op.BinaryOp.TheVariants as op
 use Rattle.sc_base.specs.declared.op.UnaryOp.{UnaryOp}
 use Rattle.sc_base.specs.declared.op.UnaryOp.TheVariants as unary
-use Rattle.sc_core.specs.Prelude.{Blocks, between, c_arith, wrapping}
+use Rattle.sc_core.specs.Prelude.{between, c_arith, wrapping}
 use Rattle.sc_core.specs.Value.{applied_one, of_bool, truth}
 use Rattle.sc_core.specs.declared.cause.Cause.{Cause}
 use Rattle.sc_core.specs.declared.cause.Cause.TheVariants.{BadType}
 use Rattle.sc_core.specs.declared.value.Value.{Value}
 use Rattle.sc_core.specs.declared.value.Value.TheVariants.{Word, Null, Ptr}
 use Rattle.sc_core_laws.proofs.WordBounds.{binary_below, negated_below, truth_below}
-use Rattle.sc_tac.specs.Prelude.{compared, constant_value, is_comparison, is_machine_word, is_pointer, is_unsigned}
+use Rattle.sc_tac.specs.Prelude.{constant_value, is_comparison, is_machine_word, is_pointer, is_unsigned}
 use Rattle.sc_tac.specs.Prelude.{operated}
 use Rattle.sc_tac.specs.declared.stmt.Constant.{Constant}
 use Rattle.sc_tac.specs.declared.stmt.Constant.TheVariants as constant

@@ -1,5 +1,5 @@
 -- Passes over the code of a function until one changes nothing, for each function of a program.
-use Rattle.std.specs.Prelude.{ℕ, zero, suc, ◌+◌, ◌==◌, if◌then◌else◌, List, map}
+use Rattle.std.specs.Prelude.{ℕ, zero, suc, ◌==◌, if◌then◌else◌, List, map}
 use Rattle.sc_core.specs.Prelude.{total}
 use Rattle.sc_tac.specs.Prelude.{parts, weight}
 use Rattle.sc_tac.specs.declared.function.TacFnTree.{TacFnTree}
