@@ -15,5 +15,4 @@ pub mod Refused
 pub mod Reported
 pub mod Results
 pub mod Scripted
-pub mod Tac
 pub mod Emitted
