@@ -414,18 +414,17 @@ module _ {T : Setting} {R : Running} (valid : IsRunning T R) (calls : Calls)
 
       -- with as many operands as it takes
       pub op_follows : (right : Option ℕ) → is_some right ≡ takes_two o → IsSound o →
-          list_all R.plan.needed (left_one ∷ one_or_none right) ≡ true →
+          R.plan.needed left_one ≡ true → ((t : ℕ) → right ≡ Some t → R.plan.needed t ≡ true) →
           Follows T R (code_step wrapping R.activation.here calls (tac.Op dest o left_one right))
           (select_step frame R.places R.plan (tac.Op dest o left_one right)) (trail_step (tac.Op dest o left_one
           right))
-      op_follows None count for needs =
+      op_follows None count for need takes =
           with_role T R (code_step wrapping R.activation.here calls (tac.Op dest o left_one None))
           (straightly frame R.places (Whole None)) Other (trail_step (tac.Op dest o left_one None))
-          (one_operand (sym count) for (and_first (R.plan.needed left_one) true needs))
-      op_follows (Some right_one) count for needs =
+          (one_operand (sym count) for need)
+      op_follows (Some right_one) count for need takes =
           with_role T R (code_step wrapping R.activation.here calls (tac.Op dest o left_one (Some right_one)))
-          (straightly frame R.places (Whole (Some right_one))) (role_of_operation dest o left_one (Some right_one))
-          (trail_step (tac.Op dest o left_one (Some right_one))) (two_operands right_one for
-          (and_first (R.plan.needed left_one) (R.plan.needed right_one && true) needs)
-          (and_first (R.plan.needed right_one) true (and_rest (R.plan.needed left_one)
-          (R.plan.needed right_one && true) needs)))
+          (straightly frame R.places (Whole (Some right_one)))
+          (role_of_operation R.plan.needed dest o left_one (Some right_one))
+          (trail_step (tac.Op dest o left_one (Some right_one))) (two_operands right_one for need
+          (takes right_one refl))

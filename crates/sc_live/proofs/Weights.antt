@@ -45,3 +45,10 @@ stmt_after list at points after start x some within is few more =
 -- A FUNCTION
 pub body_room : (f : TacFnTree) (points : ℕ) → IsFunction f → points ≡ 0 → points + weight f.body < 2 ^ 32
 body_room f points h none = omega (arith, h.light, h.few_nodes, none)
+
+-- with the temporaries that are never used, which have points behind the code
+pub points_room : (f g : TacFnTree) (points start : ℕ) → g ≡ f → IsFunction g → start ≡ 0 →
+    points ≤ start + weight g.body → points + f.temps < 2 ^ 32
+points_room f g points start same h none few =
+    let temps : g.temps ≡ f.temps = ap (λ f. f.temps) same in
+    omega (arith, h.light, h.few_nodes, h.few_temps, none, few, temps)
