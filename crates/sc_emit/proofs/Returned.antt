@@ -6,7 +6,7 @@ use Rattle.sc_emit.proofs.Common.{TacOp, Temps, Trail, Value, [], a0, and_then, 
 use Rattle.sc_emit.proofs.Common.{comes_read, computed, constant_value, ends_of, eq-eqb, false, follow as then_follow}
 use Rattle.sc_emit.proofs.Common.{follow_goes, gets, inl, is_one, leave, length, live_at, operated, read, refl, row}
 use Rattle.sc_emit.proofs.Common.{same_Some, short_form, short_return, straightly, subst, sym, then_then, trail_step}
-use Rattle.sc_emit.proofs.Common.{true, with_temp, word_of_constant, wrapping, ℕ, ◌+◌, ◌==◌, ◌∙◌, ◌∷◌, ◌≡◌}
+use Rattle.sc_emit.proofs.Common.{true, with_temp, word_of_constant, wrapping, ℕ, ◌+◌, ◌∙◌, ◌∷◌, ◌≡◌}
 use Rattle.sc_core.specs.Prelude.{in_order as one_by_one, take as taken_by}
 use Rattle.sc_emit_select.specs.Prelude.{Piece as Code}
 use Rattle.sc_core_laws.proofs.Order.{follow_assoc}

@@ -17,8 +17,8 @@ use Rattle.sc_emit.proofs.Common.{role_to_next, role_unjoined, roll-TacStmt, rot
 use Rattle.sc_emit.proofs.Common.{select_all, select_step, sets_it, short_form, short_operation, short_return}
 use Rattle.sc_emit.proofs.Common.{slice_get-get_or, stmt_does, stmt_induction, store_is_last, stores_it, straightly}
 use Rattle.sc_emit.proofs.Common.{subst, sym, taken_needed, takes_two, test_stmt, third_is_last, trail, trail_step}
-use Rattle.sc_emit.proofs.Common.{true, turning_by, which_pair, word_of_constant, wrapping, ℕ, ⊎_elim, ◌&&◌, ◌++◌, ◌+◌}
-use Rattle.sc_emit.proofs.Common.{◌<◌, ◌==◌, ◌^◌, ◌||◌, ◌∙◌, ◌∷◌, ◌≡◌, ◌≤◌}
+use Rattle.sc_emit.proofs.Common.{true, turning_by, which_pair, word_of_constant, wrapping, ℕ, ⊎_elim, ◌++◌, ◌+◌, ◌<◌}
+use Rattle.sc_emit.proofs.Common.{◌^◌, ◌||◌, ◌∙◌, ◌∷◌, ◌≡◌, ◌≤◌}
 use Rattle.sc_core.specs.Prelude.{in_order as one_by_one}
 use Rattle.sc_emit_select.specs.Prelude.{Piece as Code}
 use Rattle.sc_emit.proofs.Needed.{all_append, gives_to_next, gives_of, head_needs, need_gives, taken_unjoined}

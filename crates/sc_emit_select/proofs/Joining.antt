@@ -6,7 +6,7 @@ use Rattle.sc_emit_select.proofs.Common.{Stores, TacOp, TacStmt, TacStmt-F, [], 
 use Rattle.sc_emit_select.proofs.Common.{as_one, between, choice, choosing, drop, ending_past, eqb-true, false}
 use Rattle.sc_emit_select.proofs.Common.{fold-roll-TacStmt, followed, fork, get_or, if◌then◌else◌, in_order, in_turn}
 use Rattle.sc_emit_select.proofs.Common.{inl, inr, is_some, joined, joins, jump_over, kind_of_fork, length, map}
-use Rattle.sc_emit_select.proofs.Common.{map-TacStmt, not, nothing, object_read, object_store, past, refl, role_before}
+use Rattle.sc_emit_select.proofs.Common.{map-TacStmt, nothing, object_read, object_store, past, refl, role_before}
 use Rattle.sc_emit_select.proofs.Common.{role_first, role_of_operation, role_of_store, role_to_next, roll-TacStmt}
 use Rattle.sc_emit_select.proofs.Common.{select, select_step, short_form, short_operation, short_return, skipping}
 use Rattle.sc_emit_select.proofs.Common.{stmt_induction, straight, straightly, suc, sym, true, turning}

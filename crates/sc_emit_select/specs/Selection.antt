@@ -2,9 +2,9 @@
 use Rattle.sc_emit_select.specs.Common.{Addi, Branch, CodeTree, Ecall, Entry as EntryOf, FrameTree, Function, Global}
 use Rattle.sc_emit_select.specs.Common.{Instr, Jal, Jalr, Load, Lui, Lw, OpImm, Place, Store, Sw, TacOp, TacStmt}
 use Rattle.sc_emit_select.specs.Common.{TacStmt-F, Upper, fold-TacStmt, uses_heap}
-use Rattle.std.specs.Prelude.{ℕ, zero, suc, pos, ◌+◌, ◌*◌, List, [], ◌∷◌, ◌++◌, map, length, Option, None, Some}
-use Rattle.std.specs.Prelude.{slice_get, neg_ℤ, ◌==◌, ◌&&◌, ◌-◌, if◌then◌else◌, Bool, drop, false, is_some, not, true}
-use Rattle.std.specs.Prelude.{nat_lt, take as take_prefix}
+use Rattle.std.specs.Prelude.{Bool, List, None, Option, Some, [], drop, false, if◌then◌else◌, length, map, nat_lt}
+use Rattle.std.specs.Prelude.{neg_ℤ, pos, slice_get, suc, take as take_prefix, true, zero, ℕ, ◌&&◌, ◌*◌, ◌++◌, ◌+◌, ◌-◌}
+use Rattle.std.specs.Prelude.{◌==◌, ◌∷◌}
 use Rattle.std.specs.List.{list_all}
 use Rattle.std.specs.Option.{unwrap_or}
 use Rattle.sc_event.specs.declared.row.Entry.{Entry}
