@@ -125,10 +125,11 @@ calls t (x ∷ xs) =
 
 -- INTERVALS
 -- nothing stands behind the code
-none_behind : (points : List Point) (n : ℕ) → drop (length points + n) points ≡ []
-none_behind [] zero = refl
-none_behind [] (suc n) = refl
-none_behind (x ∷ xs) n = none_behind xs n
+none_behind : (points : List Point) (at : ℕ) → length points ≤ at → drop at points ≡ []
+none_behind [] zero h = refl
+none_behind [] (suc at) h = refl
+none_behind (x ∷ xs) zero h = absurd (omega (arith, h))
+none_behind (x ∷ xs) (suc at) h = none_behind xs at (omega (arith, h))
 
 none_taken : (n : ℕ) → any_call (take n []) ≡ false
 none_taken zero = refl
@@ -137,7 +138,7 @@ none_taken (suc n) = refl
 no_call : (points : List Point) (t : ℕ) → false ≡ has_call points (point_behind points t)
 no_call points t =
     let at : ℕ = length points + t in
-    sym (ap (λ xs. any_call (take (suc at - at) xs)) (none_behind points t) ∙ none_taken (suc at - at))
+    sym (ap (λ xs. any_call (take (suc at - at) xs)) (none_behind points at (omega arith)) ∙ none_taken (suc at - at))
 
 abbrev from_span : List Point → ℕ → Option Span → Interval
 from_span points t span = as_interval t points (unwrap_or span (point_behind points t))

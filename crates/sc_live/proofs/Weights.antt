@@ -47,8 +47,8 @@ pub body_room : (f : TacFnTree) (points : ℕ) → IsFunction f → points ≡ 0
 body_room f points h none = omega (arith, h.light, h.few_nodes, none)
 
 -- with the temporaries that are never used, which have points behind the code
-pub points_room : (f g : TacFnTree) (points start : ℕ) → g ≡ f → IsFunction g → start ≡ 0 →
-    points ≤ start + weight g.body → points + f.temps < 2 ^ 32
-points_room f g points start same h none few =
-    let temps : g.temps ≡ f.temps = ap (λ f. f.temps) same in
-    omega (arith, h.light, h.few_nodes, h.few_temps, none, few, temps)
+pub points_room : (f tree : TacFnTree) (points start : ℕ) → tree ≡ f → IsFunction f → start ≡ 0 →
+    points ≤ start + weight tree.body → points + f.temps < 2 ^ 32
+points_room f tree points start same h none few =
+    let weighs : weight tree.body ≡ weight f.body = ap (λ f. weight f.body) same in
+    omega (arith, h.light, h.few_nodes, h.few_temps, none, few, weighs)
