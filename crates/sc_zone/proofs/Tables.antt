@@ -147,9 +147,6 @@ module _ (blocks gaps gaps_before : List ℕ) (are : AreTables blocks gaps gaps_
     between : IsBetween 0 spans place words before after
     between = between_there spans 0 place words are.laid is
 
-    give_within : (0 < words) × (place + words + after ≤ zone_words)
-    give_within = let all = between_within spans 0 place words before after are.laid between in (all.1, all.2)
-
     give_list : (now : List ℕ) → ((k : ℕ) → slice_index now k ≡ (if k == place then 0 else slice_index blocks k)) →
         blocks_from 0 now ≡ without_span place spans
     give_list now put = given_list blocks now place 0 put refl
