@@ -62,7 +62,11 @@ module _ (L M : Denotations) (promises : Promises) where
       runs_in comp number args back back' b s = by (function L comp number) (function M comp number)
           (looks comp number) where
             by : (f g : Option Function) → Looks f g → PiecesAgree
-                (and_then (found f s) (λ f s. and_then (body number (record { comp = comp; first = length (s.memory comp) })
+                (and_then (found f s) (λ f s. and_then (body number (record {
+                  comp = comp;
+                  first = length
+                      (s.memory comp);
+                })
                 (begun comp f args s)) (λ v t. back v (done comp f (length (s.memory comp)) t))))
                 (and_then (found g s) (λ f s. and_then (other number (record {
                   comp = comp;

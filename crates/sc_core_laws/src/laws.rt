@@ -4,7 +4,8 @@ ghost use Rattle.sc_core_laws.specs.Prelude.{AgreeingRunAlike, BlameIsPassed, Bl
 ghost use Rattle.sc_core_laws.specs.Prelude.{ChainExists, ChainIsLeast, ChainsRise, DeepestIsReached, DepthsAreKept};
 ghost use Rattle.sc_core_laws.specs.Prelude.{EmptySetIsMeaning, FixedPoint, MeaningGoesOn, MoreGoesOn, MoreMayPerform};
 ghost use Rattle.sc_core_laws.specs.Prelude.{NobodyWhoPerformsIsBlamed, OnlyGoesOn, OtherLinesAgree, ProgramsObey};
-ghost use Rattle.sc_core_laws.specs.Prelude.{PromisingRunAlike, TracesAreLegal, TurnsOutMeansTurns, WrappedAgrees, WrappingAgrees};
+ghost use Rattle.sc_core_laws.specs.Prelude.{PromisingRunAlike, TracesAreLegal, TurnsOutMeansTurns, WrappedAgrees};
+ghost use Rattle.sc_core_laws.specs.Prelude.{WrappingAgrees};
 
 /// The functions of a program denote interaction trees: what is given or blamed, what the blocks of the compartment
 /// decide, and what comes after new blocks, after a turn and after a call. All laws hold of such denotations.

@@ -554,7 +554,8 @@ module _ (table : ℕ → Assigned) (source : ℕ → ℕ) (used holds_word : �
 
         clash : {B : Type 0} → Some_at (λ t. row_first (map (reading t) body) nothing_ahead) → B
         clash k = let no : not true ≡ true = sym (ap not k.holds)
-            ∙ and_first (not (row_first (map (reading k.t) body) nothing_ahead)) _ (assigned_first k.t) in absurd (cc no)
+            ∙ and_first (not (row_first (map (reading k.t) body) nothing_ahead)) _ (assigned_first k.t) in absurd
+            (cc no)
 
         by : (b : Bool) → row_read body nothing_ahead ≡ b → not b ≡ true
         by true is = clash (lifts.live (λ t. nothing_ahead) nothing_ahead over is)

@@ -229,7 +229,8 @@ module _ (table : ℕ → Assigned) (source : ℕ → ℕ) (used holds_word : �
         fresh = λ t. and_first ((reading t x).fresh (ahead_at (record lives { following = row_reads rest lives }) t)) _
             (rules.fresh t);
       }) p (λ t once. front t (new t once)))) where
-        front : (t : ℕ) → ((row_assigned (x ∷ rest) t ≡ Nowhere) ⊎ (g t ≡ None)) → ((assigned t x ≡ Nowhere) ⊎ (g t ≡ None))
+        front : (t : ℕ) → ((row_assigned (x ∷ rest) t ≡ Nowhere) ⊎ (g t ≡ None)) → ((assigned t x ≡ Nowhere) ⊎
+            (g t ≡ None))
         front t (inl n) = inl (never_both (assigned t x) (row_assigned rest t) n).0
         front t (inr e) = inr e
 
@@ -493,7 +494,8 @@ module _ (table : ℕ → Assigned) (source : ℕ → ℕ) (used holds_word : �
         gets_here : (v : Value) → (holds_word d ≡ true → is_word v ≡ true) → (u : Bool) → used d ≡ u →
             (k : TacStmt-F TacStmt) →
             code_step arith here D (map-TacStmt _ _ (stmt_does arith here D) k) b s ≡ leave Next (with_temp d v b) s →
-            Keeps lives g (assigned_at (tac.Op d o left right)) (leave Next (with_temp d v a) s) (gone_or (keep_if u k) b s)
+            Keeps lives g (assigned_at (tac.Op d o left right)) (leave Next (with_temp d v a) s) (gone_or
+            (keep_if u k) b s)
         gets_here v = gets_either lives g a b (assigned_at (tac.Op d o left right)) (λ t. is_one t
             (left ∷ one_or_none right)) d p new rules.below (assigned_one d) v s
 
@@ -531,7 +533,8 @@ module _ (table : ℕ → Assigned) (source : ℕ → ℕ) (used holds_word : �
             (word_of q.one q.two z.0 z.1) e)
 
         by : (q : Operands lives g a b s (λ t. is_one t (left ∷ one_or_none right) || (not
-            (d == t || false) && lives.following t)) p o left right) (f : Option Constant) → folded table o left right ≡ f →
+            (d == t || false) && lives.following t)) p o left right)
+            (f : Option Constant) → folded table o left right ≡ f →
             Keeps lives g (assigned_at (tac.Op d o left right)) (gets here d ((operated arith
             (s.memory here.comp) o q.one q.two)) a s)
             (gone_or (operator_code source used holds_word d o left right f) b s)
@@ -901,7 +904,8 @@ module _ (table : ℕ → Assigned) (source : ℕ → ℕ) (used holds_word : �
             && (all_true (map (word_test t) z) && true))) ≡ true
         inner_words t w = and_rest true _ (rules.words t w)
 
-        inner_use : (all_true (map use_test x) && (all_true (map use_test y) && (all_true (map use_test z) && true))) ≡ true
+        inner_use : (all_true (map use_test x) && (all_true (map use_test y) && (all_true
+            (map use_test z) && true))) ≡ true
         inner_use = and_rest true _ rules.uses
 
         inner_give :

@@ -200,7 +200,8 @@ module _ (arith : Arith) (fits : Fits arith) (gives : CallTarget → Bool) (here
       (alike_within n (changed_function one_pass f) (pass_keeps_rules f rules)
       (pass_keeps f.body _ (promises_stay _ _ _ _ gives) takes)) where
         by : (b : Bool) →
-            AlikeTo (changed_function one_pass f) (changed_function (optimised_within n) (changed_function one_pass f)) →
+            AlikeTo (changed_function one_pass f) (changed_function (optimised_within n)
+            (changed_function one_pass f)) →
             AlikeTo f (record f { body = if b then one_pass f.body else optimised_within n (one_pass f.body) })
         by true more C D agree giving s = once f rules takes C D agree giving s
         by false more C D agree giving s =

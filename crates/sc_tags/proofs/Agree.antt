@@ -150,7 +150,8 @@ module _ (image : ImageParts) (inputs : List ℕ) (formed : IsWellFormed image) 
       (runs_are_steady.step image inputs state formed words steady)
 
   module _ (events : ℕ) (words : All IsWord inputs) where
-    after_same : (state : MachineState) (outcome : Outcome) (tag_outcome : OutcomeOf Tagged) → StandsFor outcome tag_outcome →
+    after_same : (state : MachineState) (outcome : Outcome)
+        (tag_outcome : OutcomeOf Tagged) → StandsFor outcome tag_outcome →
         (go : MachineState → MachineRun) (tag_go : Tagged → RunOf Tagged) →
         ((next : MachineState) → outcome ≡ Goes next → tag_go (tagged_of next) ≡ run_of (go next)) →
         after state.pc (tagged_of state) tag_outcome tag_go ≡ run_of (after state.pc state outcome go)
