@@ -15,7 +15,7 @@ use sc_event::Event;
 use sc_image::layout::{A0, A7, ALLOC, FREE, INPUT, OUTPUT};
 
 #[inline(never)]
-pub(crate) fn environment_call(
+pub fn environment_call(
     here: &Here<'_>,
     inputs: &[i32],
     hart: &mut Hart,

@@ -28,7 +28,8 @@ pub use Rattle.sc_tags.specs.Prelude.{CapabilitiesAreLinear, Tagged, TagsAgree, 
 pub use Rattle.sc_tags.specs.Prelude.{code_byte, code_word, core_of, is_tag, on_tag_call, on_tag_end}
 pub use Rattle.sc_tags.specs.Prelude.{on_tag_return, owner_of, returned_by, tag_at, tag_by, tag_jumps, tag_leaves}
 pub use Rattle.sc_tags.specs.Prelude.{tag_machine, tag_run, tag_start, tag_step, tagged_word, with_code, with_outcome}
-pub use Rattle.sc_tags.specs.Prelude.{capabilities_of, leveled, lifted, with_levels}
+pub use Rattle.sc_tags.specs.Prelude.{leveled, lifted, with_levels}
+pub use Rattle.sc_gate.specs.Waiting.{call_at}
 unfoldable pub use Rattle.sc_tags.specs.Prelude.{all_tagged}
 pub use Rattle.sc_image.specs.declared.parts.ImageParts.{ImageParts}
 pub use Rattle.sc_tags.specs.declared.tag.ByteTag.{ByteTag}

@@ -2,7 +2,7 @@
 -- stack, whatever the memory is.
 use Rattle.sc_tags.proofs.Common.{BadJump, Bool, ByteMemory, Crossing, Goes, ImageParts, List, MachineState, NoImport}
 use Rattle.sc_tags.proofs.Common.{None, Option, Outcome, OutcomeOf, Some, Tagged, Traps, [], a0, a7, ap, arith, at_level}
-use Rattle.sc_tags.proofs.Common.{capabilities_of, carried_called, comp_of_code, entered_export, environment_call}
+use Rattle.sc_tags.proofs.Common.{call_at, carried_called, comp_of_code, entered_export, environment_call}
 use Rattle.sc_tags.proofs.Common.{eq-eqb, eqb-true, export_called, export_params, false, frees, gate, has_heap, has_result}
 use Rattle.sc_tags.proofs.Common.{if◌then◌else◌, jump_outside, leaves, length, leveled, lifted, may_call_export, may_input}
 use Rattle.sc_tags.proofs.Common.{may_output, nat_eq, not, on_return, on_return_to, on_tag_call, on_tag_return, ra, refl}
@@ -17,29 +17,29 @@ either R false x y x' y' p q = q
 
 -- The latest capability is that of the latest call, and once it is consumed those of the calls before are left.
 
-beyond : (cross : List Crossing) (level : ℕ) → length cross ≤ level → capabilities_of cross level ≡ None
+beyond : (cross : List Crossing) (level : ℕ) → length cross ≤ level → call_at cross level ≡ None
 beyond [] level past = refl
 beyond (x ∷ xs) level past = by _ refl
   where
     by : (same : Bool) → nat_eq level (length xs) ≡ same →
-        (if same then Some x else capabilities_of xs level) ≡ None
+        (if same then Some x else call_at xs level) ≡ None
     by true is = let here = eqb-true level (length xs) is in absurd (omega (arith, here, past))
     by false is = beyond xs level (omega (arith, past))
 
-latest : (x : Crossing) (xs : List Crossing) → capabilities_of (x ∷ xs) (length xs) ≡ Some x
+latest : (x : Crossing) (xs : List Crossing) → call_at (x ∷ xs) (length xs) ≡ Some x
 latest x xs = rw (eq-eqb (length xs) (length xs) refl) refl
 
 consumed_at : (x : Crossing) (xs : List Crossing) (level : ℕ) →
-    at_level (length xs) None (capabilities_of (x ∷ xs)) level ≡ capabilities_of xs level
+    at_level (length xs) None (call_at (x ∷ xs)) level ≡ call_at xs level
 consumed_at x xs level = by _ refl
   where
     by : (same : Bool) → nat_eq level (length xs) ≡ same →
-        (if same then None else if same then Some x else capabilities_of xs level) ≡ capabilities_of xs level
+        (if same then None else if same then Some x else call_at xs level) ≡ call_at xs level
     by true is = let here = eqb-true level (length xs) is in sym (beyond xs level (omega (arith, here)))
     by false is = refl
 
 consumed : (x : Crossing) (xs : List Crossing) →
-    ◌≡◌ {A = ℕ → Option Crossing} (at_level (length xs) None (capabilities_of (x ∷ xs))) (capabilities_of xs)
+    ◌≡◌ {A = ℕ → Option Crossing} (at_level (length xs) None (call_at (x ∷ xs))) (call_at xs)
 consumed x xs = λ i level. consumed_at x xs level i
 
 -- a jump there isn't to an own export's entry
