@@ -1,0 +1,66 @@
+//! Loads and stores.
+
+ghost use Rattle.sc_machine.specs.Prelude.{load_size, store_size};
+ghost use Rattle.std.specs.Prelude.{◌≡◌, ◌+◌, ◌<◌, ◌^◌, ◌≤◌, OnErr};
+
+use crate::memory::Memory;
+use crate::tags::Tags;
+use rv_code::{LoadOp, Reg, StoreOp};
+use sc_base::TrapReason;
+use sc_machine::{load_size, store_size};
+use sc_registers::Core;
+use sc_store::Store;
+
+/// Loads from an address into a register.
+pub(crate) fn load<S: Store>(
+    tags: &Tags<'_>,
+    core: &mut Core,
+    memory: &Memory<S>,
+    op: LoadOp,
+    rd: Reg,
+    address: u32,
+) -> Result<(), TrapReason>
+    requires { core.old.pc + 4 < 2 ^ 32 }
+    ensures trap { OnErr result (core.new ≡ core.old) }
+{
+    if let Some(reason) = refused(tags, load_size(op), address) {
+        return Err(reason);
+    }
+    core.give(rd, memory.loaded(op, address));
+    Ok(())
+}
+
+/// Stores the lowest bytes of a word at an address.
+pub(crate) fn store<S: Store>(
+    tags: &Tags<'_>,
+    core: &mut Core,
+    memory: &mut Memory<S>,
+    op: StoreOp,
+    address: u32,
+    word: u32,
+) -> Result<(), TrapReason>
+    requires { core.old.pc + 4 < 2 ^ 32 }
+    ensures trap { OnErr result (core.new ≡ core.old) }
+    ensures memory { OnErr result (memory.new ≡ memory.old) }
+{
+    if let Some(reason) = refused(tags, store_size(op), address) {
+        return Err(reason);
+    }
+    memory.put(op, address, word);
+    core.advance();
+    Ok(())
+}
+
+/// Why the compartment may not access the `size` bytes at an address, if it may not.
+fn refused(tags: &Tags<'_>, size: u32, address: u32) -> Option<TrapReason>
+    requires some { 0 < size }
+    requires few { size ≤ 4 }
+{
+    if address % size != 0 {
+        return Some(TrapReason::Misaligned);
+    }
+    if !tags.are_data(address, size) {
+        return Some(TrapReason::Owner);
+    }
+    None
+}
