@@ -3,3 +3,4 @@ mod Linear
 mod Lifting
 mod Owners
 mod Agree
+mod Bytes

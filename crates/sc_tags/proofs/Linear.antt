@@ -1,6 +1,6 @@
 -- Each step keeps one live capability at each level below the call level, and none at another.
-use Rattle.sc_tags.proofs.Common.{AtNext, Auipc, Bool, Branch, CapabilitiesAreLinear, Crossing, Ebreak, Ecall, Fence}
-use Rattle.sc_tags.proofs.Common.{Goes, ImageParts, Instr, Jal, Jalr, List, Load, Lui, MachineState, None, Op, OpImm}
+use Rattle.sc_tags.proofs.Common.{AtNext, Bool, Branch, CapabilitiesAreLinear, Crossing, Ebreak, Ecall, Fence}
+use Rattle.sc_tags.proofs.Common.{Goes, ImageParts, Instr, Jal, Jalr, List, Load, MachineState, None, Op, OpImm}
 use Rattle.sc_tags.proofs.Common.{Option, Outcome, OutcomeOf, Protection, Shift, Some, Store, TagRange, Tagged}
 use Rattle.sc_tags.proofs.Common.{TrapReason, Traps, Upper, any_run_keeps, arith, at_level, by_tag, carried_called}
 use Rattle.sc_tags.proofs.Common.{compares, decoded, entered_export, eqb-true, execute_by, false, if_decoded, if_fetched}
@@ -15,46 +15,55 @@ module _ {M : Type 0} (protection : Protection M) (P : M → Type 0) (state : M)
     (jal : (rd target : ℕ) → AtNext P (protection.jal_leaves state rd target))
     (jalr : (rd target : ℕ) → AtNext P (protection.jalr_leaves state rd target))
     (environment : AtNext P (protection.environment state)) where
-  either : (b : Bool) (x y : OutcomeOf M) → AtNext P x → AtNext P y → AtNext P (if b then x else y)
+  -- the outcome goes on in a state where it holds, if it goes on
+  record Keeps (outcome : OutcomeOf M) : Type 0 where
+    pub next : AtNext P outcome
+
+  goes : (core : MachineState) → Keeps (Goes (protection.carrier.changed state core))
+  goes core = record { next = keeps core }
+
+  traps : (reason : TrapReason) → Keeps (Traps reason)
+  traps reason = record { next = tt }
+
+  either : (b : Bool) (x y : OutcomeOf M) → Keeps x → Keeps y → Keeps (if b then x else y)
   either true x y p q = p
   either false x y p q = q
 
-  jumps : (inside : Bool) (rd target : ℕ) (elsewhere : OutcomeOf M) → AtNext P elsewhere →
-      AtNext P (jump_by protection.carrier inside state rd target elsewhere)
+  jumps : (inside : Bool) (rd target : ℕ) (elsewhere : OutcomeOf M) → Keeps elsewhere →
+      Keeps (jump_by protection.carrier inside state rd target elsewhere)
   jumps inside rd target elsewhere h =
-      either (not (target % 4 == 0)) _ _ tt (either inside _ elsewhere (keeps _) h)
+      either (not (target % 4 == 0)) _ _ (traps _) (either inside _ elsewhere (goes _) h)
 
-  accesses : (why : Option TrapReason) (x : OutcomeOf M) → AtNext P x → AtNext P (unless_trap why x)
+  accesses : (why : Option TrapReason) (x : OutcomeOf M) → Keeps x → Keeps (unless_trap why x)
   accesses None x h = h
-  accesses (Some reason) x h = tt
+  accesses (Some reason) x h = traps reason
 
-  executes : (instr : Instr) → AtNext P (execute_by protection state instr)
+  executes : (instr : Instr) → Keeps (execute_by protection state instr)
   unfolding execute_by
-  executes (Upper Lui rd imm) = keeps _
-  executes (Upper Auipc rd imm) = keeps _
-  executes (Jal rd imm) = jumps _ rd _ _ (jal rd _)
-  executes (Jalr rd rs1 imm) = jumps _ rd _ _ (jalr rd _)
-  executes (Branch op rs1 rs2 imm) = either (compares op _ _) _ _ (jumps _ 0 _ _ tt) (keeps _)
-  executes (Load op rd rs1 imm) = accesses _ _ (keeps _)
-  executes (Store op rs1 rs2 imm) = accesses _ _ (keeps _)
-  executes (OpImm op rd rs1 imm) = keeps _
-  executes (Shift op rd rs1 amount) = keeps _
-  executes (Op op rd rs1 rs2) = keeps _
-  executes (Fence imm rs1 rd) = keeps _
-  executes Ecall = environment
-  executes Ebreak = tt
+  executes (Upper op rd imm) = goes _
+  executes (Jal rd imm) = jumps _ rd _ _ (record { next = jal rd _ })
+  executes (Jalr rd rs1 imm) = jumps _ rd _ _ (record { next = jalr rd _ })
+  executes (Branch op rs1 rs2 imm) = either (compares op _ _) _ _ (jumps _ 0 _ _ (traps _)) (goes _)
+  executes (Load op rd rs1 imm) = accesses _ _ (goes _)
+  executes (Store op rs1 rs2 imm) = accesses _ _ (goes _)
+  executes (OpImm op rd rs1 imm) = goes _
+  executes (Shift op rd rs1 amount) = goes _
+  executes (Op op rd rs1 rs2) = goes _
+  executes (Fence imm rs1 rd) = goes _
+  executes Ecall = record { next = environment }
+  executes Ebreak = traps _
 
-  decodes : (instr : Option Instr) → AtNext P (if_decoded protection state instr)
-  decodes None = tt
+  decodes : (instr : Option Instr) → Keeps (if_decoded protection state instr)
+  decodes None = traps _
   decodes (Some instr) = executes instr
 
-  fetches : (word : Option ℕ) → AtNext P (if_fetched protection state word)
-  fetches None = tt
+  fetches : (word : Option ℕ) → Keeps (if_fetched protection state word)
+  fetches None = traps _
   fetches (Some word) = decodes (decoded word)
 
   pub step_keeps : AtNext P (step_by protection state)
   unfolding step_by
-  step_keeps = fetches _
+  step_keeps = (fetches _).next
 
 -- one capability at each level below the call level, and none at another
 abbrev IsLinear : Tagged → Type 0
