@@ -21,17 +21,10 @@ beyond : (cross : List Crossing) (level : ℕ) → length cross ≤ level → ca
 beyond [] level past = refl
 beyond (x ∷ xs) level past = by _ refl (beyond xs level (omega (arith, past)))
   where
-<<<<<<< HEAD
-    by : (same : Bool) → nat_eq level (length xs) ≡ same →
+    by : (same : Bool) → nat_eq level (length xs) ≡ same → call_at xs level ≡ None →
         (if same then Some x else call_at xs level) ≡ None
-    by true is = let here = eqb-true level (length xs) is in absurd (omega (arith, here, past))
-    by false is = beyond xs level (omega (arith, past))
-=======
-    by : (same : Bool) → nat_eq level (length xs) ≡ same → capabilities_of xs level ≡ None →
-        (if same then Some x else capabilities_of xs level) ≡ None
     by true is earlier = let here = eqb-true level (length xs) is in absurd (omega (arith, here, past))
     by false is earlier = earlier
->>>>>>> tags
 
 latest : (x : Crossing) (xs : List Crossing) → call_at (x ∷ xs) (length xs) ≡ Some x
 latest x xs = rw (eq-eqb (length xs) (length xs) refl) refl
