@@ -1,7 +1,10 @@
 //! Loads and stores.
 
-ghost use Rattle.sc_machine.specs.Prelude.{load_size, store_size};
-ghost use Rattle.std.specs.Prelude.{◌≡◌, ◌+◌, ◌<◌, ◌^◌, ◌≤◌, OnErr};
+ghost use Rattle.sc_image.specs.Prelude.{load_by, refused_by, store_by};
+ghost use Rattle.sc_machine.specs.Prelude.{HasBytes, load_size, store_size};
+ghost use Rattle.sc_tags.specs.Prelude.{Tagged, core_of, first_bytes};
+ghost use Rattle.sc_tags.specs.TagHart.{IsOwned, are_own_data, running_in, tag_outcome};
+ghost use Rattle.std.specs.Prelude.{◌≡◌, ◌%◌, ◌+◌, ◌<◌, ◌^◌, ◌≤◌, IfNone, OnErr};
 
 use crate::memory::Memory;
 use crate::tags::Tags;
@@ -20,7 +23,12 @@ pub(crate) fn load<S: Store>(
     rd: Reg,
     address: u32,
 ) -> Result<(), TrapReason>
-    requires { core.old.pc + 4 < 2 ^ 32 }
+    requires pc { core.old.pc + 4 < 2 ^ 32 }
+    requires owned { IsOwned tags.now.image memory.now }
+    ensures outcome { (tagged : Tagged) →
+        tag_outcome result (running_in tags.now.comp memory.now core.new tagged) ≡
+        load_by core_of (are_own_data tags.now address (load_size op))
+        (running_in tags.now.comp memory.now core.old tagged) op rd address }
     ensures trap { OnErr result (core.new ≡ core.old) }
 {
     if let Some(reason) = refused(tags, load_size(op), address) {
@@ -39,7 +47,13 @@ pub(crate) fn store<S: Store>(
     address: u32,
     word: u32,
 ) -> Result<(), TrapReason>
-    requires { core.old.pc + 4 < 2 ^ 32 }
+    requires pc { core.old.pc + 4 < 2 ^ 32 }
+    requires owned { IsOwned tags.now.image memory.old }
+    ensures outcome { (tagged : Tagged) →
+        tag_outcome result (running_in tags.now.comp memory.new core.new tagged) ≡
+        store_by core_of (are_own_data tags.now address (store_size op))
+        (running_in tags.now.comp memory.old core.old tagged) op address word }
+    ensures owned { IsOwned tags.now.image memory.new }
     ensures trap { OnErr result (core.new ≡ core.old) }
     ensures memory { OnErr result (memory.new ≡ memory.old) }
 {
@@ -55,6 +69,9 @@ pub(crate) fn store<S: Store>(
 fn refused(tags: &Tags<'_>, size: u32, address: u32) -> Option<TrapReason>
     requires some { 0 < size }
     requires few { size ≤ 4 }
+    ensures reason { result ≡ refused_by (are_own_data tags.now address size) size address }
+    ensures aligned { IfNone result (address % size ≡ 0) }
+    ensures there { IfNone result (HasBytes (first_bytes tags.now.image) address size) }
 {
     if address % size != 0 {
         return Some(TrapReason::Misaligned);

@@ -1,5 +1,11 @@
 //! One step, by the instruction at the pc. A step that can't be made changes nothing.
 
+ghost use Rattle.sc_image.specs.Prelude.{execute_by};
+ghost use Rattle.sc_machine.specs.Prelude.{IsReady, LeavesSound, word_of};
+ghost use Rattle.sc_tags.specs.Prelude.{by_tag, tag_step};
+ghost use Rattle.sc_tags.specs.TagHart.{IsOwned, place_of, tag_outcome, tagged_in};
+ghost use Rattle.std.specs.Prelude.{◌≡◌, ◌+◌, ◌<◌, ◌^◌, OnErr, map};
+
 use crate::access::{load, store};
 use crate::jump::{branch, jal, jalr};
 use crate::memory::Memory;
@@ -16,7 +22,15 @@ pub(crate) fn step<S: Store>(
     inputs: &[i32],
     hart: &mut Hart,
     memory: &mut Memory<S>,
-) -> Result<(), TrapReason> {
+) -> Result<(), TrapReason>
+    requires ready { IsReady (place_of tags.now) hart.old }
+    requires owned { IsOwned tags.now.image memory.old }
+    ensures outcome { tag_outcome result (tagged_in memory.new hart.new) ≡
+        tag_step tags.now.image tags.now.ranges (map word_of inputs.now) (tagged_in memory.old hart.old) }
+    ensures leaves { LeavesSound tags.now.image result hart.old hart.new }
+    ensures memory { OnErr result (memory.new ≡ memory.old) }
+    ensures owned { IsOwned tags.now.image memory.new }
+{
     if !tags.are_code(hart.core.pc) {
         return Err(TrapReason::BadJump);
     }
@@ -32,7 +46,17 @@ fn execute<S: Store>(
     hart: &mut Hart,
     memory: &mut Memory<S>,
     instr: &Instr,
-) -> Result<(), TrapReason> {
+) -> Result<(), TrapReason>
+    requires pc { hart.old.core.pc + 4 < 2 ^ 32 }
+    requires ready { IsReady (place_of tags.now) hart.old }
+    requires owned { IsOwned tags.now.image memory.old }
+    ensures outcome { tag_outcome result (tagged_in memory.new hart.new) ≡
+        execute_by (by_tag tags.now.image tags.now.ranges (map word_of inputs.now)) (tagged_in memory.old hart.old)
+        instr.now }
+    ensures leaves { LeavesSound tags.now.image result hart.old hart.new }
+    ensures memory { OnErr result (memory.new ≡ memory.old) }
+    ensures owned { IsOwned tags.now.image memory.new }
+{
     match *instr {
         Instr::Upper { op, rd, imm } => upper(&mut hart.core, op, rd, imm),
         Instr::OpImm { op, rd, rs1, imm } => op_imm(&mut hart.core, op, rd, rs1, imm),

@@ -1,5 +1,14 @@
 //! Machines with tags, and their runs in pieces.
 
+ghost use Rattle.sc_gate.specs.Waiting.{crossing_of};
+ghost use Rattle.sc_image.specs.Prelude.{RunOf, continued};
+ghost use Rattle.sc_machine.specs.Prelude.{word_of};
+ghost use Rattle.sc_tags.specs.Prelude.{Tagged, tag_at, tag_machine, tag_run};
+ghost use Rattle.sc_tags.specs.Progress.{IsTagCalled, tag_loaded, tag_run_of};
+ghost use Rattle.sc_tags.specs.TagHart.{CanRunTagged, tagged_in};
+ghost use Rattle.std.specs.Option.{option_map};
+ghost use Rattle.std.specs.Prelude.{◌≡◌, ◌+◌, ◌++◌, ◌∷◌, [], IfErr, IfOk, List, map, sum, ℕ};
+
 use crate::execute::step;
 use crate::memory::Memory;
 use crate::owner::tag_at;
@@ -14,6 +23,7 @@ use sc_store::Store;
 use sqlite_items::Items;
 use std::alloc::Global;
 use std::fmt;
+use std::marker::Model;
 use thiserror::Error;
 
 /// What a machine was loaded with.
@@ -33,6 +43,39 @@ pub struct TagMachine<S> {
     hart: Hart,
     memory: Memory<S>,
     stop: Stop,
+}
+
+impl Model for Loaded {
+    ghost use Rattle.sc_tags.specs.TagHart.{LoadedParts};
+    ghost use Rattle.sc_word.specs.Word.{word_of};
+    ghost use Rattle.std.specs.Prelude.{map};
+
+    ghost Value = { LoadedParts };
+
+    ghost view = { λ loaded. record {
+      image = loaded.program;
+      ranges = loaded.ranges;
+      inputs = map word_of loaded.inputs;
+      events = loaded.events;
+    } };
+}
+
+impl<S: Store> Model for TagMachine<S> {
+    ghost use Rattle.sc_tags.specs.Progress.{TagProgress};
+    ghost use Rattle.sc_tags.specs.TagHart.{CanRunTagged, tagged_in};
+
+    ghost Value = { TagProgress };
+
+    ghost view = { λ m. record {
+      image = m.loaded.image;
+      ranges = m.loaded.ranges;
+      inputs = m.loaded.inputs;
+      events = m.loaded.events;
+      state = tagged_in m.memory m.hart;
+      stop = m.stop;
+    } };
+
+    ghost invariant = { λ m. CanRunTagged m.loaded.image m.loaded.events m.hart m.memory };
 }
 
 /// A machine that can't be made.
@@ -58,7 +101,14 @@ impl<S: Store> TagMachine<S> {
         ranges: &[TagRange],
         inputs: &[i32],
         events: u32,
-    ) -> Result<TagMachine<S>, TagLoadFault> {
+    ) -> Result<TagMachine<S>, TagLoadFault>
+        ensures image { IfOk result (λ machine. machine.image ≡ image) }
+        ensures ranges { IfOk result (λ machine. machine.ranges ≡ ranges.now) }
+        ensures inputs { IfOk result (λ machine. machine.inputs ≡ map word_of inputs.now) }
+        ensures events { IfOk result (λ machine. machine.events ≡ events) }
+        ensures run { IfOk result (λ machine. tag_run_of machine ≡ tag_loaded image) }
+        ensures back { IfErr result (λ fault. fault ≡ TagLoadFault.OutOfMemory image) }
+    {
         let Ok(ranges) = Items::from_slice(alloc, ranges) else {
             return Err(TagLoadFault::OutOfMemory(image));
         };
@@ -90,7 +140,19 @@ impl<S: Store> TagMachine<S> {
 
     /// Goes on for at most `steps` steps, and says why it stopped. A run that stopped for another reason than
     /// `StepsOut` stays so: the answer is the same, and nothing changes.
-    pub fn run(&mut self, steps: u32) -> Stop {
+    pub fn run(&mut self, steps: u32) -> Stop
+        ensures run { tag_run_of self.new ≡ continued
+            (tag_run self.old.image self.old.ranges self.old.inputs self.old.events steps) (tag_run_of self.old) }
+        ensures again { (earlier : List ℕ) → IsTagCalled self.old earlier →
+            IsTagCalled self.new (earlier ++ steps ∷ []) }
+        ensures any_calls { (earlier : List ℕ) → IsTagCalled self.old earlier → tag_run_of self.new ≡ tag_machine
+            self.old.image self.old.ranges self.old.inputs (sum earlier + steps) self.old.events }
+        ensures answer { result ≡ self.new.stop }
+        ensures image { self.new.image ≡ self.old.image }
+        ensures ranges { self.new.ranges ≡ self.old.ranges }
+        ensures inputs { self.new.inputs ≡ self.old.inputs }
+        ensures events { self.new.events ≡ self.old.events }
+    {
         if let Stop::StepsOut = self.stop {
             self.stop = run(&self.loaded, &mut self.hart, &mut self.memory, steps);
         }
@@ -98,28 +160,42 @@ impl<S: Store> TagMachine<S> {
     }
 
     /// The events so far, the oldest first.
-    pub fn trace(&self) -> &[Event] {
+    pub fn trace(&self) -> &[Event]
+        ensures { result.now ≡ self.now.state.core.trace }
+    {
         &self.hart.trace
     }
 
     /// The tag of the byte at an address.
-    pub fn tag(&self, at: u32) -> ByteTag {
+    pub fn tag(&self, at: u32) -> ByteTag
+        ensures { result ≡ tag_at self.now.image self.now.ranges at }
+    {
         tag_at(self.loaded.program.image(), self.loaded.ranges.as_slice(), at)
     }
 
     /// The call level.
-    pub fn level(&self) -> u32 {
+    pub fn level(&self) -> u32
+        ensures { result ≡ self.now.state.level }
+    {
         self.hart.cross.count()
     }
 
     /// The live return capability of a level, `None` where there is none.
-    pub fn capability(&self, level: u32) -> Option<CrossEntry> {
+    pub fn capability(&self, level: u32) -> Option<CrossEntry>
+        ensures { option_map crossing_of result ≡ self.now.state.capabilities level }
+    {
         self.hart.cross.at(level)
     }
 }
 
 /// Takes at most `steps` steps.
-fn run<S: Store>(loaded: &Loaded, hart: &mut Hart, memory: &mut Memory<S>, steps: u32) -> Stop {
+fn run<S: Store>(loaded: &Loaded, hart: &mut Hart, memory: &mut Memory<S>, steps: u32) -> Stop
+    requires ready { CanRunTagged loaded.now.image loaded.now.events hart.old memory.old }
+    ensures run { ◌≡◌ {A = RunOf Tagged} (record { state = tagged_in memory.new hart.new; stop = result })
+        (tag_run loaded.now.image loaded.now.ranges loaded.now.inputs loaded.now.events steps
+        (tagged_in memory.old hart.old)) }
+    ensures ready { CanRunTagged loaded.now.image loaded.now.events hart.new memory.new }
+{
     let mut tags = Tags::of(&loaded.program, loaded.ranges.as_slice(), hart.active);
     memory.focus(hart.active);
     if let Some(stop) = stopped(loaded.events, &hart.trace) {

@@ -1,9 +1,8 @@
 //! The compartment whose code runs, and the tags that it meets.
 
 ghost use Rattle.sc_machine.specs.Place.{IsPlace};
-ghost use Rattle.sc_tags.specs.Prelude.{all_tagged, tag_at};
-ghost use Rattle.sc_tags.specs.declared.tag.ByteTag.TheVariants.{Code, Data};
-ghost use Rattle.std.specs.Prelude.{◌≡◌, ◌%◌, ◌&&◌, ◌+◌, ◌<◌, ◌^◌, ◌≤◌, nat_eq};
+ghost use Rattle.sc_tags.specs.TagHart.{are_own_data, is_own_code};
+ghost use Rattle.std.specs.Prelude.{◌≡◌, ◌+◌, ◌<◌, ◌^◌, ◌≤◌};
 
 use crate::memory::Memory;
 use crate::owner::{all_tagged, are_untouched};
@@ -74,8 +73,7 @@ impl<'a> Tags<'a> {
 
     /// Whether a whole word stands at an address whose bytes are all tagged as the compartment's code.
     pub fn are_code(&self, address: u32) -> bool
-        ensures { result ≡ (nat_eq (address % 4) 0 &&
-            all_tagged (tag_at self.now.image self.now.ranges) (Code self.now.comp) address 4) }
+        ensures { result ≡ is_own_code self.now address }
     {
         if address % 4 != 0 {
             return false;
@@ -92,7 +90,7 @@ impl<'a> Tags<'a> {
         requires some { 0 < size }
         requires few { size ≤ 4 }
         requires end { address + size ≤ 2 ^ 32 }
-        ensures { result ≡ all_tagged (tag_at self.now.image self.now.ranges) (Data self.now.comp) address size }
+        ensures { result ≡ are_own_data self.now address size }
     {
         if are_untouched(self.ranges, address, size) {
             return self.here.are_data(address, size);
