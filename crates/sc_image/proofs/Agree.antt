@@ -7,7 +7,8 @@ use Rattle.sc_image.proofs.Common.{decoded, execute, execute_by, export_called, 
 use Rattle.sc_image.proofs.Common.{gate, has_heap, has_result, if_decoded, if_fetched, if◌then◌else◌, is_some}
 use Rattle.sc_image.proofs.Common.{jalr_target, jump, jump_by, jump_outside, kept_by, leaves, load_by, load_size}
 use Rattle.sc_image.proofs.Common.{may_call_export, nat_eq, next, not, on_alloc, on_call, on_input, on_output}
-use Rattle.sc_image.proofs.Common.{on_return, on_return_to, own, plain, ra, refl, reg, saved_sp, step, step_by, store_by}
+use Rattle.sc_image.proofs.Common.{on_return, on_return_to, own, plain, ra, refl, reg, saved_sp, step, step_by}
+use Rattle.sc_image.proofs.Common.{store_by}
 use Rattle.sc_image.proofs.Common.{store_size, subst, sym, true, word_of, zone_of, zone_start, ℕ, ◌&&◌, ◌*◌, ◌∙◌, ◌∷◌}
 use Rattle.sc_image.proofs.Common.{◌≡◌}
 use Rattle.sc_image.proofs.Memory.{zone_owned}

@@ -2,7 +2,8 @@
 use Rattle.sc_image.specs.Common.{Auipc, BadCall, BadFree, BadJump, Branch, BranchOp, Breakpoint, Ebreak, Ecall, Fence}
 use Rattle.sc_image.specs.Common.{Illegal}
 use Rattle.sc_image.specs.Common.{Instr, Jal, Jalr, Load, LoadOp, Lui, Misaligned, NoImport, Op, OpImm, OpImmOp, OpOp}
-use Rattle.sc_image.specs.Common.{Owner, Shift, ShiftOp, Store, StoreOp, TrapReason, Upper, UpperOp, add_word, decoded, div_word}
+use Rattle.sc_image.specs.Common.{Owner, Shift, ShiftOp, Store, StoreOp, TrapReason, Upper, UpperOp, add_word, decoded}
+use Rattle.sc_image.specs.Common.{div_word}
 use Rattle.sc_image.specs.Common.{divu_word, load_of, mul_word, mulh_word, mulhsu_word, mulhu_word, rem_word, remu_word}
 use Rattle.sc_image.specs.Common.{signed, signed_of, sll_word, slt_word, sltu_word, sra_word, srl_word, with_bytes}
 use Rattle.sc_image.specs.Common.{sub_word, word_of}

@@ -1,26 +1,19 @@
 -- Without ranges each step of the machine with tags is one of the machine with regions.
-use Rattle.sc_tags.proofs.Common.{Auipc, BadJump, Bool, Branch, ByteMemory, Crossing, Ebreak, Ecall, Fence, Goes}
-use Rattle.sc_tags.proofs.Common.{ImageParts, Instr, IsWellFormed, Jal, Jalr, List, Load, LoadOp, Lui, MachineRun}
-use Rattle.sc_tags.proofs.Common.{MachineState, NoImport, None, Op, OpImm, Option, Outcome, OutcomeOf, RunOf, Shift, Some}
-use Rattle.sc_tags.proofs.Common.{Stop, Store, StoreOp, Tagged, TagsAgree, TrapReason, Traps, Upper, [], a0, a7, after}
-use Rattle.sc_tags.proofs.Common.{allowed_data, ap, are_data, arith, at_level, by_owner, by_tag, carried_called}
-use Rattle.sc_tags.proofs.Common.{comp_of_code, compares, core_of, decoded}
-use Rattle.sc_tags.proofs.Common.{entered_export, entry_code, environment_call, eq-eqb, eqb-true, execute, execute_by}
-use Rattle.sc_tags.proofs.Common.{export_called, export_params, extended, false, frees, gate, gives}
-use Rattle.sc_tags.proofs.Common.{gives_by, has_heap, has_result, if_decoded, if_fetched, if◌then◌else◌, is_some}
-use Rattle.sc_tags.proofs.Common.{jalr_target, jump, jump_by, jump_outside, leaves, length, load_of, load_size, machine}
-use Rattle.sc_tags.proofs.Common.{may_call_export, may_input, may_output, nat_eq, nat_lt, next, next_by, not, on_alloc}
-use Rattle.sc_tags.proofs.Common.{on_return, on_return_to, on_tag_call, on_tag_return, start, plain, ra, refl, refused, reg}
-use Rattle.sc_tags.proofs.Common.{returned_by, run, run_by, some_is, starts_block, step, step_by, stopped, stops_or}
-use Rattle.sc_tags.proofs.Common.{store_by, store_size, subst, suc, sym, tag_at, tag_jumps, tag_leaves, tag_machine}
-use Rattle.sc_tags.proofs.Common.{tag_run, tag_start, tag_step, tagged_word, true, true≢false, unless_trap, with_bytes}
-use Rattle.sc_tags.proofs.Common.{with_code, with_outcome, with_stored, word_at, word_loaded, zero, zone_of, ℕ, ◌%◌, ◌&&◌}
-use Rattle.sc_tags.proofs.Common.{All, Data, IsSteadyState, IsWord, after_outcome}
+use Rattle.sc_tags.proofs.Common.{All, Auipc, Bool, Branch, ByteMemory, Data, Ebreak, Ecall, Fence, Goes, ImageParts}
+use Rattle.sc_tags.proofs.Common.{Instr, IsSteadyState, IsWellFormed, IsWord, Jal, Jalr, List, Load, LoadOp, Lui}
+use Rattle.sc_tags.proofs.Common.{MachineRun, MachineState, None, Op, OpImm, Option, Outcome, OutcomeOf, RunOf, Shift}
+use Rattle.sc_tags.proofs.Common.{Some, Stop, Store, StoreOp, Tagged, TagsAgree, TrapReason, Traps, Upper, [], after}
+use Rattle.sc_tags.proofs.Common.{after_outcome, all_tagged, allowed_data, ap, are_data, by_owner, by_tag, comp_of_code}
+use Rattle.sc_tags.proofs.Common.{compares, core_of, decoded, entered_export, entry_code, eqb-true, execute, execute_by}
+use Rattle.sc_tags.proofs.Common.{extended, false, gives, gives_by, if_decoded, if_fetched, is_some, jalr_target, jump}
+use Rattle.sc_tags.proofs.Common.{jump_by, jump_outside, leaves, length, leveled, load_by, load_size, machine, nat_eq}
+use Rattle.sc_tags.proofs.Common.{next, next_by, not, plain, refl, refused, reg, run, run_by, some_is, start, step}
+use Rattle.sc_tags.proofs.Common.{step_by, stopped, stops_or, store_by, store_size, subst, suc, sym, tag_at, tag_jumps}
+use Rattle.sc_tags.proofs.Common.{tag_leaves, tag_machine, tag_run, tag_step, tagged_word, true, unless_trap, with_code}
+use Rattle.sc_tags.proofs.Common.{with_stored, word_at, word_loaded, zero, ℕ, ◌%◌, ◌<◌, ◌==◌, ◌∙◌, ◌≡◌}
 use Rattle.sc_image.proofs.Reached.{runs_are_steady}
-use Rattle.sc_tags.proofs.Common.{leveled}
 use Rattle.sc_tags.proofs.Lifting.{IsNotOwn, Stands, calls_same, either, environment_same, leaves_same}
 use Rattle.sc_tags.proofs.Owners.{data_loaded, data_stored, data_tagged, fetched_same}
-use Rattle.sc_tags.proofs.Common.{◌*◌, ◌+◌, ◌<◌, ◌==◌, ◌∙◌, ◌∷◌, ◌≡◌, ◌≤◌, all_tagged, load_by, add_word, word_of}
 
 module _ (image : ImageParts) (inputs : List ℕ) (formed : IsWellFormed image) where
   abbrev tagged_of : MachineState → Tagged
@@ -35,7 +28,8 @@ module _ (image : ImageParts) (inputs : List ℕ) (formed : IsWellFormed image) 
 
     -- Jumps.
 
-    jump_at : (inside : Bool) (rd target : ℕ) (x : Outcome) (x' : OutcomeOf Tagged) → (inside ≡ false → StandsFor x x') →
+    jump_at : (inside : Bool) (rd target : ℕ) (x : Outcome) (x' : OutcomeOf Tagged) →
+        (inside ≡ false → StandsFor x x') →
         StandsFor (jump_by plain inside state rd target x) (jump_by core_of inside tagged rd target x')
     jump_at true rd target x x' elsewhere = either StandsFor (not (target % 4 == 0)) _ _ _ _ refl refl
     jump_at false rd target x x' elsewhere =
@@ -104,7 +98,8 @@ module _ (image : ImageParts) (inputs : List ℕ) (formed : IsWellFormed image) 
         (store_by core_of (all_tagged (tag_at image []) (Data state.active) a (store_size op)) tagged op a word)
     store_same op a word =
         subst (λ allowed. StandsFor (store_by plain (are_data image state.active a (store_size op)) state op a word)
-        (store_by core_of allowed tagged op a word)) (sym (data_tagged image formed state.active a (store_size op) within))
+        (store_by core_of allowed tagged op a word))
+        (sym (data_tagged image formed state.active a (store_size op) within))
         (store_at op a word _ refl)
 
     -- The step.
@@ -155,13 +150,13 @@ module _ (image : ImageParts) (inputs : List ℕ) (formed : IsWellFormed image) 
       (runs_are_steady.step image inputs state formed words steady)
 
   module _ (events : ℕ) (words : All IsWord inputs) where
-    after_same : (state : MachineState) (outcome : Outcome) (tagged : OutcomeOf Tagged) → StandsFor outcome tagged →
+    after_same : (state : MachineState) (outcome : Outcome) (tag_outcome : OutcomeOf Tagged) → StandsFor outcome tag_outcome →
         (go : MachineState → MachineRun) (tag_go : Tagged → RunOf Tagged) →
         ((next : MachineState) → outcome ≡ Goes next → tag_go (tagged_of next) ≡ run_of (go next)) →
-        after state.pc (tagged_of state) tagged tag_go ≡ run_of (after state.pc state outcome go)
-    after_same state (Goes next) tagged is go tag_go later =
+        after state.pc (tagged_of state) tag_outcome tag_go ≡ run_of (after state.pc state outcome go)
+    after_same state (Goes next) tag_outcome is go tag_go later =
         ap (λ o. after state.pc (tagged_of state) o tag_go) is ∙ later next refl
-    after_same state (Traps reason) tagged is go tag_go later =
+    after_same state (Traps reason) tag_outcome is go tag_go later =
         ap (λ o. after state.pc (tagged_of state) o tag_go) is
 
     stop_same : (early : Option Stop) (state : MachineState) (later : MachineRun) (tag_later : RunOf Tagged) →

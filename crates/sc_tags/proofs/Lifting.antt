@@ -1,13 +1,12 @@
 -- Jumps out of the code, returns and calls of the environment do the same with levels and capabilities as with a cross
 -- stack, whatever the memory is.
-use Rattle.sc_tags.proofs.Common.{BadJump, Bool, ByteMemory, Crossing, Goes, ImageParts, List, MachineState, NoImport}
-use Rattle.sc_tags.proofs.Common.{None, Option, Outcome, OutcomeOf, Some, Tagged, Traps, [], a0, a7, ap, arith, at_level}
-use Rattle.sc_tags.proofs.Common.{call_at, carried_called, comp_of_code, entered_export, environment_call}
-use Rattle.sc_tags.proofs.Common.{eq-eqb, eqb-true, export_called, export_params, false, frees, gate, has_heap, has_result}
-use Rattle.sc_tags.proofs.Common.{if◌then◌else◌, jump_outside, leaves, length, leveled, lifted, may_call_export, may_input}
-use Rattle.sc_tags.proofs.Common.{may_output, nat_eq, not, on_return, on_return_to, on_tag_call, on_tag_return, ra, refl}
-use Rattle.sc_tags.proofs.Common.{reg, returned_by, starts_block, sym, tag_jumps, tag_leaves, true, with_outcome, zone_of}
-use Rattle.sc_tags.proofs.Common.{ℕ, ◌&&◌, ◌∙◌, ◌∷◌, ◌≡◌, ◌≤◌}
+use Rattle.sc_tags.proofs.Common.{Bool, ByteMemory, Crossing, Goes, ImageParts, List, MachineState, None, Option}
+use Rattle.sc_tags.proofs.Common.{Outcome, OutcomeOf, Some, Tagged, [], a7, ap, arith, at_level, call_at}
+use Rattle.sc_tags.proofs.Common.{carried_called, comp_of_code, entered_export, environment_call, eq-eqb, eqb-true}
+use Rattle.sc_tags.proofs.Common.{export_called, false, frees, gate, has_heap, has_result, jump_outside, leaves, length}
+use Rattle.sc_tags.proofs.Common.{leveled, lifted, may_call_export, may_input, may_output, nat_eq, not, on_return}
+use Rattle.sc_tags.proofs.Common.{on_return_to, on_tag_return, ra, refl, reg, returned_by, starts_block, sym, tag_jumps}
+use Rattle.sc_tags.proofs.Common.{tag_leaves, true, with_outcome, zone_of, ℕ, if◌then◌else◌, ◌&&◌, ◌∙◌, ◌∷◌, ◌≡◌, ◌≤◌}
 
 -- of two choices by one test, what holds of both sides
 pub either : {A B : Type 0} (R : A → B → Type 0) (b : Bool) (x y : A) (x' y' : B) → R x x' → R y y' →

@@ -1,12 +1,13 @@
 -- Each step keeps one live capability at each level below the call level, and none at another.
 use Rattle.sc_tags.proofs.Common.{AtNext, Bool, Branch, CapabilitiesAreLinear, Crossing, Ebreak, Ecall, Fence}
-use Rattle.sc_tags.proofs.Common.{Goes, ImageParts, Instr, Jal, Jalr, List, Load, MachineState, None, Op, OpImm}
-use Rattle.sc_tags.proofs.Common.{Option, Outcome, OutcomeOf, Protection, Shift, Some, Store, TagRange, Tagged}
-use Rattle.sc_tags.proofs.Common.{TrapReason, Traps, Upper, any_run_keeps, arith, at_level, by_tag, carried_called}
-use Rattle.sc_tags.proofs.Common.{compares, decoded, entered_export, eqb-true, execute_by, false, if_decoded, if_fetched}
-use Rattle.sc_tags.proofs.Common.{if◌then◌else◌, is_some, jump_by, le-ltb, lt-ltb, may_call_export, nat_eq, nat_lt}
-use Rattle.sc_tags.proofs.Common.{nat_tests, not, on_tag_call, on_tag_return, ra, refl, returned_by, step_by, suc, sym}
-use Rattle.sc_tags.proofs.Common.{tag_jumps, tag_leaves, tag_start, tag_step, true, unless_trap, with_outcome, zero}
+use Rattle.sc_tags.proofs.Common.{Goes, ImageParts, Instr, Jal, Jalr, Load, MachineState, None, Op, OpImm}
+use Rattle.sc_tags.proofs.Common.{Option, Outcome, OutcomeOf, Protection, Shift, Some, Store, Tagged}
+use Rattle.sc_tags.proofs.Common.{TrapReason, Traps, Upper, any_run_keeps, arith, by_tag, carried_called}
+use Rattle.sc_tags.proofs.Common.{compares, decoded, entered_export, eqb-true, execute_by, false, if_decoded}
+use Rattle.sc_tags.proofs.Common.{if_fetched}
+use Rattle.sc_tags.proofs.Common.{if◌then◌else◌, is_some, jump_by, le-ltb, lt-ltb, nat_eq, nat_lt}
+use Rattle.sc_tags.proofs.Common.{nat_tests, not, on_tag_call, on_tag_return, refl, returned_by, step_by, suc, sym}
+use Rattle.sc_tags.proofs.Common.{tag_jumps, tag_leaves, tag_start, true, unless_trap, with_outcome, zero}
 use Rattle.sc_tags.proofs.Common.{BadJump, NoImport, comp_of_code, export_params, ℕ, ◌%◌, ◌==◌, ◌∙◌, ◌≡◌}
 
 -- What holds of a state whatever its core is, a step keeps if jumps out of the code and calls of the environment do.
@@ -69,7 +70,8 @@ module _ {M : Type 0} (protection : Protection M) (P : M → Type 0) (state : M)
 abbrev IsLinear : Tagged → Type 0
 IsLinear tagged = (l : ℕ) → is_some (tagged.capabilities l) ≡ nat_lt l tagged.level
 
-made_by : (n l : ℕ) (x : Crossing) (old : Option Crossing) (same : Bool) → nat_eq l n ≡ same → is_some old ≡ nat_lt l n →
+made_by : (n l : ℕ) (x : Crossing) (old : Option Crossing) (same : Bool) → nat_eq l n ≡ same →
+    is_some old ≡ nat_lt l n →
     is_some (if same then Some x else old) ≡ nat_lt l (suc n)
 made_by n l x old true is h = let here = eqb-true l n is in sym (lt-ltb l (suc n) (omega (arith, here)))
 made_by n l x old false is h = h ∙ grind (arith, nat_tests)

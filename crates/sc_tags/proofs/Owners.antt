@@ -1,15 +1,13 @@
 -- Without ranges, what is tagged as a compartment's code or data is its code or its data, and memory is that of the
 -- machine with regions, with the code too.
-use Rattle.sc_tags.proofs.Common.{Bool, ByteMemory, ByteTag, Code, Data, ImageParts, IsWellFormed, MachineState, None}
-use Rattle.sc_tags.proofs.Common.{Option, Some, Tagged, Unowned, [], all_tagged, ap, ap₂, are_data, arith, code_byte}
-use Rattle.sc_tags.proofs.Common.{code_start, code_word, comp_of_code, comp_of_data, data_bounds, data_end, data_start}
-use Rattle.sc_tags.proofs.Common.{eq-eqb, eqb-true, false, false_from_ne_true, if◌then◌else◌, if_some, in_code, is_tag}
-use Rattle.sc_tags.proofs.Common.{comp_found, and_parts, leb-true, length, lt-ltb, ltb-true, is_some, load_of, load_of-same, load_of-stored}
-use Rattle.sc_tags.proofs.Common.{nat_eq, nat_le, nat_lt, ne_eqb, one_is, one_of, owner_of, owns, refl, slice_get}
-use Rattle.sc_tags.proofs.Common.{slice_get_within, stored-at, stretch, subst, suc, sym, tag_at, tag_by, true, true≢false}
-use Rattle.sc_tags.proofs.Common.{with_bytes, with_code, word_at, zero, ℕ, ◌%◌, ◌&&◌, ◌*◌, ◌+◌, ◌-◌, ◌/◌, ◌<◌, ◌^◌, ◌∙◌}
-use Rattle.sc_tags.proofs.Common.{◌≡◌, ◌≢◌, ◌≤◌}
-use Rattle.std.specs.Option.{option_map, option_or}
+use Rattle.sc_tags.proofs.Common.{Bool, ByteMemory, ByteTag, Code, Data, ImageParts, IsWellFormed, None, Option, Some}
+use Rattle.sc_tags.proofs.Common.{Unowned, [], all_tagged, and_parts, ap, ap₂, are_data, arith, code_start, code_word}
+use Rattle.sc_tags.proofs.Common.{comp_found, comp_of_code, comp_of_data, data_bounds, data_start, eq-eqb, eqb-true}
+use Rattle.sc_tags.proofs.Common.{false, if_some, in_code, is_some, is_tag, leb-true, length, load_of, load_of-same}
+use Rattle.sc_tags.proofs.Common.{load_of-stored, lt-ltb, ltb-true, nat_eq, nat_le, nat_lt, one_is, one_of, owner_of}
+use Rattle.sc_tags.proofs.Common.{owns, refl, slice_get, slice_get_within, stored-at, suc, sym, tag_at, tag_by, true}
+use Rattle.sc_tags.proofs.Common.{with_bytes, with_code, word_at, zero, ℕ, if◌then◌else◌, ◌%◌, ◌&&◌, ◌*◌, ◌+◌, ◌-◌, ◌/◌}
+use Rattle.sc_tags.proofs.Common.{◌<◌, ◌∙◌, ◌≡◌, ◌≤◌}
 
 -- with no range a tag stays
 stays : (tag : ByteTag) → tag_by tag tag ≡ tag
@@ -53,7 +51,8 @@ module _ (image : ImageParts) (formed : IsWellFormed image) where
   owner_data : (c a : ℕ) → is_tag (Data c) (tag_at image [] a) ≡ is_tag (Data c) (owner_of image a)
   owner_data c a = ap (is_tag (Data c)) (stays (owner_of image a))
 
-  by_owned : (c a : ℕ) → c < length image.comps → are_data image c a 1 ≡ true → is_tag (Data c) (owner_of image a) ≡ true
+  by_owned : (c a : ℕ) → c < length image.comps → are_data image c a 1 ≡ true →
+      is_tag (Data c) (owner_of image a) ≡ true
   by_owned c a within is =
       let same = data_comp c a is in
       let there = lt-ltb c (length image.comps) within in

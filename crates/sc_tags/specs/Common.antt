@@ -1,6 +1,7 @@
 -- The names from below that several definitions of this crate cite, passed on from one place. Declares nothing.
 pub use Rattle.sc_store.specs.Prelude.{ByteMemory, byte_of, load_of}
-pub use Rattle.sc_image.specs.Prelude.{Carrier, Crossing, Goes, IsWellFormed, MachineState, Outcome, OutcomeOf, Protection}
+pub use Rattle.sc_image.specs.Prelude.{Carrier, Crossing, Goes, IsWellFormed, MachineState, Outcome, OutcomeOf}
+pub use Rattle.sc_image.specs.Prelude.{Protection}
 pub use Rattle.sc_image.specs.Prelude.{RunOf, Traps, comp_of_code, comp_of_data, crossing_to, entered_export}
 pub use Rattle.sc_image.specs.Prelude.{environment_call, export_params, gate, has_result, machine, may_call_export}
 pub use Rattle.sc_image.specs.Prelude.{on_end, on_entry, on_return_to, ra, start}

@@ -1,6 +1,7 @@
 -- The machine with tags: it executes what is tagged as code of the active compartment, and loads and stores what is
 -- tagged as its data.
-use Rattle.sc_tags.specs.Common.{ByteMemory, Carrier, Goes, ImageParts, MachineState, Outcome, OutcomeOf, Protection, RunOf, TagRange}
+use Rattle.sc_tags.specs.Common.{ByteMemory, Carrier, Goes, ImageParts, Outcome, OutcomeOf, Protection, RunOf}
+use Rattle.sc_tags.specs.Common.{TagRange}
 use Rattle.sc_tags.specs.Common.{Traps, comp_of_code, entered_export, environment_call, export_params, gate, load_of}
 use Rattle.sc_tags.specs.Common.{Code, Data, may_call_export, ra, run_by, step_by}
 use Rattle.sc_tags.specs.Tagged.{Tagged, on_tag_call, on_tag_return, tag_start}

@@ -2,7 +2,7 @@
 use Rattle.sc_tags.specs.Common.{Crossing, ImageParts, MachineState, crossing_to, has_result, on_end, on_entry}
 use Rattle.sc_tags.specs.Common.{on_return_to, start}
 use Rattle.sc_tags.specs.Tags.{first_bytes}
-use Rattle.std.specs.Prelude.{None, Option, Some, [], if◌then◌else◌, nat_eq, suc, zero, ℕ}
+use Rattle.std.specs.Prelude.{None, Option, Some, [], nat_eq, suc, zero, ℕ, if◌then◌else◌}
 
 pub record Tagged : Type 0 where
   -- the state of the machine with regions, where memory has all owned bytes, those of code too, and where the cross

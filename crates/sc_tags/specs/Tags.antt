@@ -1,7 +1,8 @@
 -- The tags of bytes. They follow from the image and the ranges, since no step changes the tag of a byte.
 use Rattle.sc_tags.specs.Common.{ByteMemory, ByteTag, Code, Data, ImageParts, TagRange, Unowned, are_data, byte_of}
 use Rattle.sc_tags.specs.Common.{comp_of_code, comp_of_data, start_memory, word_at}
-use Rattle.std.specs.Prelude.{Bool, List, Option, fold, false, if◌then◌else◌, is_some, length, nat_eq, nat_le, nat_lt, suc}
+use Rattle.std.specs.Prelude.{Bool, List, Option, fold, false, if◌then◌else◌, is_some, length, nat_eq, nat_le, nat_lt}
+use Rattle.std.specs.Prelude.{suc}
 use Rattle.std.specs.Prelude.{true, zero, ℕ, ◌%◌, ◌&&◌, ◌*◌, ◌+◌, ◌/◌}
 use Rattle.std.specs.Option.{option_map, option_or}
 

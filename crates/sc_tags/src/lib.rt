@@ -1,5 +1,5 @@
-//! A machine that protects memory by tags on bytes and calls by levels and capabilities. Without ranges of other tags it
-//! makes the same runs as the machine with regions.
+//! A machine that protects memory by tags on bytes, and calls by levels and capabilities. Without ranges that give other
+//! tags it makes the same runs as the machine with regions.
 #![tactic(auto)]
 
 mod access;
