@@ -3,7 +3,7 @@ use Rattle.sc_tags.proofs.Common.{Bool, ByteTag, Code, Data, ImageParts, IsWellF
 use Rattle.sc_tags.proofs.Common.{Unowned, [], all_tagged, ap, ap₂, are_data, arith, code_start, comp_of_code}
 use Rattle.sc_tags.proofs.Common.{comp_of_data, data_start, eq-eqb, false, if◌then◌else◌, is_some, is_tag, length, lt-leb}
 use Rattle.sc_tags.proofs.Common.{le-leb, le-ltb, lt-ltb, nat_le, nat_lt, nat_tests, one_is, owner_of, owns_is, refl, slice_get}
-use Rattle.sc_tags.proofs.Common.{stretch, suc, sym, tag_at, tag_by, true, word_at, zero, ℕ, ◌%◌, ◌&&◌, ◌*◌, ◌+◌, ◌-◌}
+use Rattle.sc_tags.proofs.Common.{suc, sym, tag_at, tag_by, true, word_at, zero, ℕ, ◌%◌, ◌&&◌, ◌*◌, ◌+◌, ◌-◌}
 use Rattle.sc_tags.proofs.Common.{◌/◌, ◌<◌, ◌∙◌, ◌∷◌, ◌≡◌, ◌≤◌, ◌||◌}
 use Rattle.sc_image.specs.Prelude.{has_heap, initial_globals, stack_size, stack_top, zone_size, zone_start}
 use Rattle.sc_image.specs.declared.parts.CompPart.{CompPart}
