@@ -16,6 +16,8 @@ pub use Rattle.sc_image.proofs.Common.{slice_get_within, start, starts_block, st
 pub use Rattle.sc_image.proofs.Common.{store_size, subst, suc, sym, true, unless_trap, with_bytes, with_stored}
 pub use Rattle.sc_image.proofs.Common.{word_loaded, zero, zone_of, ℕ, if◌then◌else◌, ◌%◌, ◌&&◌, ◌*◌, ◌+◌, ◌-◌, ◌/◌, ◌<◌}
 pub use Rattle.sc_image.proofs.Common.{◌==◌, ◌∙◌, ◌∷◌, ◌≡◌, ◌≤◌}
+pub use Rattle.sc_image.proofs.Common.{cases_lt, true≢false, ⊎_elim}
+pub use Rattle.sc_tags.specs.Prelude.{code_byte}
 pub use Rattle.sc_image.proofs.Common.{le-leb, lt-leb, ◌||◌}
 pub use Rattle.sc_gate.specs.Waiting.{call_at}
 pub use Rattle.sc_tags.specs.declared.tag.TagRange.{TagRange}

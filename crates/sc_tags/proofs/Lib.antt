@@ -4,3 +4,4 @@ mod Lifting
 mod Owners
 mod Agree
 mod Bytes
+mod Untouched

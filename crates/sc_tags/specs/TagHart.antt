@@ -1,6 +1,6 @@
 -- Helping: what instructions of the machine with tags change, as the state that it stands for.
 use Rattle.sc_tags.specs.Common.{ByteMemory, Goes, ImageParts, OutcomeOf, TagRange, Traps}
-use Rattle.sc_tags.specs.Tags.{all_tagged, first_bytes, tag_at}
+use Rattle.sc_tags.specs.Tags.{all_tagged, first_bytes, is_in_range, tag_at}
 use Rattle.sc_tags.specs.Common.{Code, Data}
 use Rattle.sc_machine.specs.Place.{Site}
 use Rattle.sc_tags.specs.Tagged.{Tagged}
@@ -9,7 +9,7 @@ use Rattle.sc_base.specs.declared.stop.TrapReason.{TrapReason}
 use Rattle.sc_machine.specs.Prelude.{HasRoom, IsSound, running, state_in}
 use Rattle.sc_registers.specs.declared.registers.Core.{Core}
 use Rattle.sc_machine.specs.declared.hart.Hart.{Hart}
-use Rattle.std.specs.Prelude.{Bool, Err, List, Ok, Result, is_some, nat_eq, ℕ, ◌%◌, ◌&&◌, ◌*◌, ◌/◌, ◌≡◌}
+use Rattle.std.specs.Prelude.{Bool, Err, List, Ok, Result, false, is_some, nat_eq, ℕ, ◌%◌, ◌+◌, ◌<◌, ◌&&◌, ◌*◌, ◌/◌, ◌≡◌}
 
 -- the state with levels that a hart stands for, with this memory: the calls of its cross stack are the capabilities
 abbrev pub tagged_in : ByteMemory → Hart → Tagged
@@ -27,6 +27,10 @@ tag_outcome (Err reason) tagged = Traps reason
 -- there is a byte where there was one at the start, and nowhere else
 abbrev pub IsOwned : ImageParts → ByteMemory → Type 0
 IsOwned image memory = (address : ℕ) → is_some (memory address) ≡ is_some (first_bytes image address)
+
+-- the range has none of the `size` bytes from an address on
+abbrev pub IsApart : TagRange → (address size : ℕ) → Type 0
+IsApart range address size = (k : ℕ) → k < size → is_in_range range (address + k) ≡ false
 
 -- the addresses with a byte make whole words
 abbrev pub AreWholeWords : ByteMemory → Type 0

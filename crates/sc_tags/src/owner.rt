@@ -2,7 +2,8 @@
 
 ghost use Rattle.sc_image.specs.Prelude.{comp_of_code, word_at};
 ghost use Rattle.sc_tags.specs.Prelude.{all_tagged, is_data_byte, is_in_range, is_tag, owner_of, retagged, tag_at};
-ghost use Rattle.std.specs.Prelude.{◌≡◌, ◌%◌, ◌+◌, ◌^◌, ◌≤◌, IsTrue, fold, is_some};
+ghost use Rattle.sc_tags.specs.TagHart.{IsApart};
+ghost use Rattle.std.specs.Prelude.{All, IsTrue, fold, is_some, ◌≡◌, ◌%◌, ◌+◌, ◌^◌, ◌≤◌};
 
 use crate::tag::{ByteTag, TagRange};
 use sc_image::Image;
@@ -38,20 +39,22 @@ fn contains(range: &TagRange, at: u32) -> bool
     range.start <= at && at - range.start < range.bytes
 }
 
-/// Whether no range has any of the `size` bytes at an address.
-pub(crate) fn are_untouched(ranges: &[TagRange], address: u32, size: u32) -> bool {
+/// Whether no range has any of the `size` bytes at an address. Where it says no, there may be none all the same.
+pub(crate) fn are_untouched(ranges: &[TagRange], address: u32, size: u32) -> bool
+    ensures { IsTrue result → All (λ range. IsApart range address size) ranges.now }
+{
     ranges
         .iter()
-        .all(|range| range.bytes == 0 || !meets(range, address, size))
+        .all(|range| is_apart(range, address, size))
 }
 
-/// Whether a range that isn't empty has one of the `size` bytes at an address.
-fn meets(range: &TagRange, address: u32, size: u32) -> bool {
+fn is_apart(range: &TagRange, address: u32, size: u32) -> bool
+    ensures { IsTrue result → IsApart range.now address size }
+{
     if address < range.start {
-        range.start - address < size
-    } else {
-        address - range.start < range.bytes
+        return range.start - address >= size;
     }
+    address - range.start >= range.bytes
 }
 
 /// The tag by who owns the byte at an address.
