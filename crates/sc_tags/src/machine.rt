@@ -38,7 +38,7 @@ struct Loaded {
 
 /// A loaded image on the machine with tags, and how far its run is.
 #[derive(Drop)]
-pub struct TagMachine<S> {
+pub struct TagMachine<S: Store> {
     loaded: Loaded,
     hart: Hart,
     memory: Memory<S>,

@@ -17,7 +17,7 @@ use std::marker::Model;
 /// The bytes of code in one store and those of data in another, so that each has its own focus. Contracts see the map of
 /// all of them.
 #[derive(Drop)]
-pub(crate) struct Memory<S> {
+pub(crate) struct Memory<S: Store> {
     code: S,
     data: S,
 }

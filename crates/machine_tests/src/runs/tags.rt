@@ -1,7 +1,8 @@
 use super::machines::{CALL, SEVEN, START, STACK_TOP, pair, second, single, trap};
 use sc_base::Stop::{self, Ended, StepsOut};
 use sc_base::{OutOfMemory, TrapReason};
-use sc_event::{CompId, Event};
+use sc_event::{CompId, Entry, Event};
+use sc_gate::CrossEntry;
 use sc_image::Image;
 use sc_store::FlatStore;
 use sc_tags::{ByteTag, TagMachine, TagRange};
@@ -87,11 +88,15 @@ fn has_a_capability_below_its_level(rt: HostRuntime) -> Result<(), Fail> {
     assert_eq!(rt; machine.run(2), StepsOut);
     assert_eq!(rt; machine.level(), 1);
     assert!(rt; machine.capability(1).is_none());
-    let Some(call) = machine.capability(0) else {
-        Err("a capability of level 0")?
+    let call = CrossEntry {
+        caller: CompId::first(),
+        pc: START + 8,
+        sp: STACK_TOP,
+        callee: second(),
+        entry: Entry::Export(0),
+        saved: STACK_TOP + 0x10_0000,
     };
-    assert_eq!(rt; (call.caller, call.callee), (CompId::first(), second()));
-    assert_eq!(rt; (call.pc, call.sp), (START + 8, STACK_TOP));
+    assert!(rt; machine.capability(0) == Some(call));
     assert_eq!(rt; machine.run(1), StepsOut);
     assert_eq!(rt; machine.level(), 0);
     assert!(rt; machine.capability(0).is_none());
