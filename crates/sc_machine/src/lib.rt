@@ -24,7 +24,7 @@ pub use environment::environment_call;
 pub use hart::Hart;
 pub use here::Here;
 pub use jump::{branch_target, jump_target};
-pub use loading::{start, start_memory};
+pub use loading::{start_hart, start_memory};
 pub use machine::{LoadFault, Machine};
 pub use memory::{load_size, loaded, put, store_size};
 pub use own_view::OwnView;

@@ -23,7 +23,7 @@ use sc_store::{Region, Store};
 use std::alloc::{AllocError, Global};
 
 /// At the image's entry, with room for `events` events.
-pub fn start(alloc: Global, image: &Image, events: u32) -> Result<Hart, OutOfMemory>
+pub fn start_hart(alloc: Global, image: &Image, events: u32) -> Result<Hart, OutOfMemory>
     ensures state { IfOk result (λ hart. state_in (start_memory image.now) hart ≡ start image.now) }
     ensures sound { IfOk result (IsSound image.now) }
     ensures room { IfOk result (HasRoom events) }

@@ -18,7 +18,7 @@ use sc_base::Stop;
 use sc_event::Event;
 use sc_gate::CrossEntry;
 use sc_image::Image;
-use sc_machine::{Hart, Program, start, stopped};
+use sc_machine::{Hart, Program, start_hart, stopped};
 use sc_store::Store;
 use sqlite_items::Items;
 use std::alloc::Global;
@@ -118,7 +118,7 @@ impl<S: Store> TagMachine<S> {
         let Ok(memory) = Memory::start(alloc, &image) else {
             return Err(TagLoadFault::OutOfMemory(image));
         };
-        let Ok(hart) = start(alloc, &image, events) else {
+        let Ok(hart) = start_hart(alloc, &image, events) else {
             return Err(TagLoadFault::OutOfMemory(image));
         };
         let program = match Program::new(alloc, image) {
