@@ -13,12 +13,12 @@ use Rattle.std.specs.Prelude.{fold}
 -- a place in a list
 there : {A : Type 0} (xs : List A) (i : ℕ) → is_some (slice_get xs i) ≡ nat_lt i (length xs)
 there [] i = sym (le-ltb i 0 (omega arith))
-there (x ∷ xs) zero = refl
+there (x ∷ xs) zero = sym (lt-ltb 0 (suc (length xs)) (omega arith))
 there (x ∷ xs) (suc i) = there xs i ∙ grind (arith, nat_tests)
 
-none_either : {A : Type 0} (b : Bool) → is_some (if b then None {T = A} else None) ≡ false
-none_either true = refl
-none_either false = refl
+none_either : (b : Bool) (none : Option ℕ) → none ≡ None → is_some (if b then none else None) ≡ false
+none_either true none is = ap is_some is
+none_either false none is = refl
 
 module _ (image : ImageParts) (word : ℕ) (aligned : word % 4 ≡ 0) where
   pub code_low : word < 0x01000000 → is_some (word_at image (comp_of_code word) word) ≡ false
@@ -28,7 +28,7 @@ module _ (image : ImageParts) (word : ℕ) (aligned : word % 4 ≡ 0) where
   pub code_nobody : slice_get image.comps (comp_of_code word) ≡ None →
       is_some (word_at image (comp_of_code word) word) ≡ false
   unfolding word_at
-  code_nobody none = rw none (none_either _)
+  code_nobody none = rw none (none_either _ _ refl)
 
   pub code_there : (comp : CompPart) → slice_get image.comps (comp_of_code word) ≡ Some comp → 0x01000000 ≤ word →
       is_some (word_at image (comp_of_code word) word) ≡
