@@ -13,10 +13,8 @@ The texts are those of `outsider_texts.py`. For each, `explain` gives the machin
 
 usage: bench/chains.py [--texts N] [--seed S] [--secomp PROGRAM] [--keep DIR]
 """
-import argparse
 import collections
 import itertools
-import os
 import re
 import subprocess
 import sys
@@ -24,8 +22,8 @@ from concurrent.futures import ThreadPoolExecutor
 
 sys.dont_write_bytecode = True
 from outsider_texts import Maker
+from seeds import arguments, keep
 
-TOP = os.path.dirname(os.path.dirname(os.path.realpath(__file__)))
 LINK = re.compile(r"replace (\w+) after (\d+) (\w+) line (\d+)")
 SECTION = re.compile(r"(?m)^(?=#pragma compartment )")
 MOST_SETS = 64
@@ -108,14 +106,7 @@ class Case:
 
 def main():
     """Checks the texts of the seeds that the words name; the exit status."""
-    options = argparse.ArgumentParser(description=__doc__.split("\n")[0])
-    options.add_argument("--texts", type=int, default=500)
-    options.add_argument("--seed", type=int, default=1)
-    options.add_argument("--secomp", default=os.path.join(TOP, "crates/secomp/out/secomp"))
-    options.add_argument("--keep")
-    words = options.parse_args()
-    if not os.access(words.secomp, os.X_OK):
-        options.error("%s isn't there; build the program first, or name one with --secomp" % words.secomp)
+    words = arguments(__doc__, 500)
     counts, failed = collections.Counter(), 0
     cases = [Case(seed, words.secomp) for seed in range(words.seed, words.seed + words.texts)]
     with ThreadPoolExecutor(2) as pool:
@@ -124,10 +115,7 @@ def main():
             if wrong:
                 failed += 1
                 print("seed %d: %s" % (case.seed, "; ".join(wrong)), flush=True)
-                if words.keep:
-                    os.makedirs(words.keep, exist_ok=True)
-                    with open(os.path.join(words.keep, "%d.c" % case.seed), "w", encoding="utf-8") as out:
-                        out.write(case.text)
+                keep(words.keep, case)
     print("texts %d, by the length of the chain: %s" % (words.texts, ", ".join(
         "%d of %d" % (count, links) for links, count in sorted(counts.items()))))
     print("%d passed, %d failed" % (words.texts - failed, failed))

@@ -31,7 +31,6 @@ Where the language fixes what C leaves open or says otherwise, the texts keep cl
 
 usage: bench/outsider.py [--texts N] [--seed S] [--secomp PROGRAM] [--keep DIR]
 """
-import argparse
 import collections
 import os
 import re
@@ -43,8 +42,8 @@ from concurrent.futures import ThreadPoolExecutor
 
 sys.dont_write_bytecode = True
 from outsider_texts import BOUNDS, HEAP, NULL, Maker
+from seeds import arguments, keep
 
-TOP = os.path.dirname(os.path.dirname(os.path.realpath(__file__)))
 BATCH = 20
 NEVER = {"Dangling", "Indeterminate", "BadType", "BadPointer", "NoReturn"}
 KINDS = [("Dangling", "use-after-free|double-free"), ("BadFree", "not malloc"),
@@ -216,18 +215,11 @@ def judge(seeds, program):
 
 def main():
     """Compares the texts of the seeds that the words name; the exit status."""
-    options = argparse.ArgumentParser(description=__doc__.split("\n")[0])
-    options.add_argument("--texts", type=int, default=200)
-    options.add_argument("--seed", type=int, default=1)
-    options.add_argument("--secomp", default=os.path.join(TOP, "crates/secomp/out/secomp"))
-    options.add_argument("--keep")
-    words = options.parse_args()
+    words = arguments(__doc__, 200)
     absent = [name for name in ("gcc", "clang") if not shutil.which(name)]
     if absent:
         print("outsider: compared nothing, for want of %s on the path" % " and ".join(absent))
         return 0
-    if not os.access(words.secomp, os.X_OK):
-        options.error("%s isn't there; build the program first, or name one with --secomp" % words.secomp)
     seeds = range(words.seed, words.seed + words.texts)
     batches = [seeds[i:i + BATCH] for i in range(0, len(seeds), BATCH)]
     summary = Summary(words.keep)
@@ -251,10 +243,7 @@ class Summary:
         if wrong:
             self.failed += 1
             print("seed %d: stop %s: %s" % (case.seed, " ".join(case.stop), "; ".join(wrong)), flush=True)
-            if self.folder:
-                os.makedirs(self.folder, exist_ok=True)
-                with open(os.path.join(self.folder, "%d.c" % case.seed), "w", encoding="utf-8") as out:
-                    out.write(case.text)
+            keep(self.folder, case)
         elif case.stop == ["ended"]:
             self.equal += 1
         else:
