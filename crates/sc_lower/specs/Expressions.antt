@@ -1,8 +1,8 @@
 -- The code of expressions: one temporary for each node at most, numbered upward.
 use Rattle.sc_lower.specs.Common.{BinaryOp, Const, Global, GlobalPlace, If, Load, Local, ObjectPlace, Op, Param}
 use Rattle.sc_lower.specs.Common.{TacStmt, Ty, TypedExpr, TypedExpr-F, TypedKind-F, TypedStruct, VarRef, fold-TypedExpr}
-use Rattle.sc_lower.specs.Common.{is_array, is_pointer, is_unsigned, is_unsigned_op, target_cells}
-use Rattle.std.specs.Prelude.{ℕ, suc, ◌+◌, ◌*◌, ◌%◌, ◌^◌, Bool, true, false, List, [], ◌∷◌, ◌++◌, None, Some}
+use Rattle.sc_lower.specs.Common.{is_array, is_pointer, is_unsigned, is_unsigned_op, size_in_bytes, target_cells}
+use Rattle.std.specs.Prelude.{ℕ, suc, ◌+◌, Bool, true, false, List, [], ◌∷◌, ◌++◌, None, Some}
 use Rattle.std.specs.Prelude.{if◌then◌else◌}
 use Rattle.sc_base.specs.declared.op.UnaryOp.{UnaryOp}
 use Rattle.sc_base.specs.declared.op.UnaryOp.TheVariants as unary
@@ -79,7 +79,7 @@ no_place value w = value
 
 -- the size of a type of so many cells (C11 6.5.3.4)
 abbrev pub size_of : ℕ → Constant
-size_of cells = constant.Word (4 * cells % 2 ^ 32)
+size_of cells = constant.Word (size_in_bytes cells)
 
 -- OPERATORS
 abbrev pub scalar_in : Bool → Scalar
