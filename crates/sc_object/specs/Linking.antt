@@ -64,14 +64,14 @@ IsJoinFault objects OutOfMemory = Unit {0}
 IsJoinFault objects fault = join_fault objects ≡ Some fault
 
 -- what the first object says of a compartment
-abbrev pub face_at : List ObjectParts → (c : ℕ) → Option Face
-face_at objects c = option_and_then (λ head. slice_get head.faces c) (slice_get objects 0)
+abbrev pub face_for : List ObjectParts → (c : ℕ) → Option Face
+face_for objects c = option_and_then (λ head. slice_get head.faces c) (slice_get objects 0)
 
 -- the first object has a face for the compartment that the fault names
 abbrev pub NamesFace : List ObjectParts → JoinFault → Type 0
 NamesFace objects (Differ second) = Unit {0}
-NamesFace objects (Twice comp second) = IsSome (face_at objects comp)
-NamesFace objects (Missing comp) = IsSome (face_at objects comp)
+NamesFace objects (Twice comp second) = IsSome (face_for objects comp)
+NamesFace objects (Missing comp) = IsSome (face_for objects comp)
 NamesFace objects OutOfMemory = Unit {0}
 
 -- objects that can be joined, by what the head says of the program

@@ -1,6 +1,6 @@
 ghost use Rattle.std.specs.Prelude.{◌≡◌, [], ◌∷◌, ◌++◌, IfOk, OnOk};
 ghost use Rattle.std.specs.Option.{option_copied};
-ghost use Rattle.sc_object.specs.Linking.{face_at};
+ghost use Rattle.sc_object.specs.Linking.{face_for};
 ghost use Rattle.sc_object.specs.WellFormed.{AreObjects, IsObject};
 
 use crate::{Face, ObjectParts};
@@ -100,7 +100,7 @@ impl Objects {
 
     /// What the first object says of a compartment.
     pub fn face(&self, comp: CompId) -> Option<&Face>
-        ensures { option_copied result ≡ face_at self.now comp }
+        ensures { option_copied result ≡ face_for self.now comp }
     {
         match self.items.get(0) {
             None => None,
