@@ -51,7 +51,7 @@ fn runs_with_a_mended_section(rt: HostRuntime) -> Result<(), Fail> {
     let _stop = machine.run(1000);
     let trace = machine.trace();
     assert!(rt; trace.len() == 4);
-    assert!(rt; matches!(&trace[2], Event::Out { word: 0, .. }));
+    assert!(rt; matches!(&trace[2], Event::Out { value: 0, .. }));
     Ok(())
 }
 

@@ -8,6 +8,7 @@ mod Joining
 mod Keeping
 mod Linked
 mod Links
+mod Named
 mod Programs
 mod Splitting
 mod Turns

@@ -8,8 +8,7 @@ use Rattle.sc_object.proofs.Common.{if◌then◌else◌, image_of, main_name, ma
 use Rattle.sc_object.proofs.Common.{refl, section_addresses, section_or_none, slice_get, subst, suc, sym, true}
 use Rattle.sc_object.proofs.Common.{with_entries, zero, ℕ, ◌+◌, ◌-◌, ◌<◌, ◌==◌, ◌∙◌, ◌∷◌, ◌≡◌}
 use Rattle.sc_compile.proofs.Parts.{codes_so, image_is, own_codes, parts_are_separate}
-use Rattle.sc_compile.specs.Prelude.{all_codes}
-use Rattle.sc_lower.specs.Prelude.{lowered_program}
+use Rattle.sc_compile.specs.Prelude.{all_codes, program_tac}
 use Rattle.sc_tac.specs.declared.machine_code.CodeTree.{CodeTree}
 
 -- Entries.
@@ -45,7 +44,7 @@ module _ (program : ProgramTree) (codes : List CodeTree) where
 pub has_entries : (program : ProgramTree) (image : ImageParts) → image_of program ≡ Ok image → HasEntries image
 has_entries program image is =
     subst HasEntries (image_is program image is)
-    (λ c comp there. entries_from program (all_codes (lowered_program program)) 0 program.interfaces.comps c c comp
+    (λ c comp there. entries_from program (all_codes (program_tac program)) 0 program.interfaces.comps c c comp
     (omega arith) there)
 
 module _ (program : ProgramTree) (codes : List CodeTree) where
@@ -60,7 +59,7 @@ pub has_comps : (program : ProgramTree) (image : ImageParts) (c : ℕ) → image
 has_comps program image c is low =
     let count : length image.comps ≡ length program.interfaces.comps =
     subst (λ (image : ImageParts). length image.comps ≡ length program.interfaces.comps) (image_is program image is)
-    (parts_count program (all_codes (lowered_program program)) 0 program.interfaces.comps) in
+    (parts_count program (all_codes (program_tac program)) 0 program.interfaces.comps) in
     omega (arith, low, count)
 
 -- Faces are told by the interfaces alone.
@@ -131,9 +130,9 @@ separate program other image its c is other_is same_interfaces same_section =
     ap (λ (i : ImageParts). i.main) its_so) in
     let faces : map face_of image.comps ≡ map face_of its.comps =
     ap (λ (i : ImageParts). map face_of i.comps) (sym image_so) ∙
-    (faces_are program (all_codes (lowered_program program)) 0 program.interfaces.comps ∙
+    (faces_are program (all_codes (program_tac program)) 0 program.interfaces.comps ∙
     (ap (λ (i : Interfaces). faces_in i 0 i.comps) same_interfaces ∙
-    (sym (faces_are other (all_codes (lowered_program other)) 0 other.interfaces.comps) ∙
+    (sym (faces_are other (all_codes (program_tac other)) 0 other.interfaces.comps) ∙
     ap (λ (i : ImageParts). map face_of i.comps) its_so))) in
     let heap = ap (λ found. option_map_or (λ (comp : CompPart). comp.heap) found false) part in
     let code = ap (λ found. option_map_or (λ (comp : CompPart). comp.code) found []) part in

@@ -2,7 +2,7 @@
 -- compartment, or a compartment has none.
 use Rattle.sc_image.specs.Prelude.{is_same_import, is_same_name}
 use Rattle.std.specs.Prelude.{◌≡◌, ℕ, zero, suc, Bool, ◌&&◌, ◌==◌, List, [], ◌∷◌, ◌++◌, length, Option, None, Some, All}
-use Rattle.std.specs.Prelude.{false, if◌then◌else◌, slice_get, true}
+use Rattle.std.specs.Prelude.{IsSome, false, if◌then◌else◌, option_and_then, slice_get, true}
 use Rattle.std.specs.Cmp.Lexicographic.{pointwise}
 use Rattle.std.specs.List.{list_any}
 use Rattle.std.specs.Option.{option_or}
@@ -62,6 +62,17 @@ join_fault (head ∷ objects) =
 abbrev pub IsJoinFault : List ObjectParts → JoinFault → Type 0
 IsJoinFault objects OutOfMemory = Unit {0}
 IsJoinFault objects fault = join_fault objects ≡ Some fault
+
+-- what the first object says of a compartment
+abbrev pub face_for : List ObjectParts → (c : ℕ) → Option Face
+face_for objects c = option_and_then (λ head. slice_get head.faces c) (slice_get objects 0)
+
+-- the first object has a face for the compartment that the fault names
+abbrev pub NamesFace : List ObjectParts → JoinFault → Type 0
+NamesFace objects (Differ second) = Unit {0}
+NamesFace objects (Twice comp second) = IsSome (face_for objects comp)
+NamesFace objects (Missing comp) = IsSome (face_for objects comp)
+NamesFace objects OutOfMemory = Unit {0}
 
 -- objects that can be joined, by what the head says of the program
 pub record CanBeJoined (head : ObjectParts) (objects : List ObjectParts) : Type 0 where

@@ -10,5 +10,6 @@ pub use Rattle.sc_object.specs.WellFormed.{AreObjects, IsFace, IsFaceExport, IsO
 pub use Rattle.sc_object.specs.Joining.{HasEntries, HasOwn, IsJoined, IsObjectOf, face_export, face_of, join_as}
 pub use Rattle.sc_object.specs.Joining.{joined_part, joined_parts, object_for, object_of, with_entries}
 pub use Rattle.sc_object.specs.Laws.{AreObjectsOf, LinkIsCompile, ObjectsAreSeparate}
-pub use Rattle.sc_object.specs.Linking.{CanBeJoined, IsJoinFault, differ_from, has_number, is_same_export, is_same_face}
-pub use Rattle.sc_object.specs.Linking.{is_same_flag, is_same_program, join_fault, missing_from, twice_from}
+pub use Rattle.sc_object.specs.Linking.{CanBeJoined, IsJoinFault, NamesFace, differ_from, face_for, has_number}
+pub use Rattle.sc_object.specs.Linking.{is_same_export, is_same_face, is_same_flag, is_same_program, join_fault}
+pub use Rattle.sc_object.specs.Linking.{missing_from, twice_from}

@@ -1,8 +1,8 @@
 //! Linking: the image of objects.
 
-ghost use Rattle.sc_object.specs.Prelude.{CanBeJoined, HasOwn, IsJoinFault, IsJoined, IsObject, differ_from};
-ghost use Rattle.sc_object.specs.Prelude.{has_number, join_as, join_fault, joined_part, joined_parts, missing_from};
-ghost use Rattle.sc_object.specs.Prelude.{object_for, twice_from, with_entries};
+ghost use Rattle.sc_object.specs.Prelude.{CanBeJoined, HasOwn, IsJoinFault, IsJoined, IsObject, NamesFace};
+ghost use Rattle.sc_object.specs.Prelude.{differ_from, has_number, join_as, join_fault, joined_part, joined_parts};
+ghost use Rattle.sc_object.specs.Prelude.{missing_from, object_for, twice_from, with_entries};
 ghost use Rattle.sc_base.specs.Prelude.{most_compartments, most_exports};
 ghost use Rattle.sc_image.specs.Prelude.{stretch};
 ghost use Rattle.std.specs.Prelude.{◌≡◌, ◌≤◌, ◌<◌, ◌^◌, [], All, IfErr, IfOk, None, Some, length};
@@ -52,6 +52,7 @@ pub fn link_objects(alloc: Global, objects: &Objects) -> Result<Image, JoinFault
     ensures good { IfOk result (λ _. join_fault objects.now ≡ None) }
     ensures own { IfOk result (λ image. All (HasOwn image) objects.now) }
     ensures fault { IfErr result (IsJoinFault objects.now) }
+    ensures named { IfErr result (NamesFace objects.now) }
 {
     let list = objects.as_slice();
     let head = &list[0];

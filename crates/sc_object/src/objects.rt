@@ -1,8 +1,11 @@
 ghost use Rattle.std.specs.Prelude.{◌≡◌, [], ◌∷◌, ◌++◌, IfOk, OnOk};
+ghost use Rattle.std.specs.Option.{option_copied};
+ghost use Rattle.sc_object.specs.Linking.{face_for};
 ghost use Rattle.sc_object.specs.WellFormed.{AreObjects, IsObject};
 
-use crate::ObjectParts;
+use crate::{Face, ObjectParts};
 use sc_base::OutOfMemory;
+use sc_event::CompId;
 use sqlite_items::Items;
 use std::alloc::Global;
 use std::marker::Model;
@@ -93,6 +96,16 @@ impl Objects {
         ensures good { AreObjects self.now }
     {
         self.items.as_slice()
+    }
+
+    /// What the first object says of a compartment.
+    pub fn face(&self, comp: CompId) -> Option<&Face>
+        ensures { option_copied result ≡ face_for self.now comp }
+    {
+        match self.items.get(0) {
+            None => None,
+            Some(head) => head.faces.get(usize::from(comp.number())),
+        }
     }
 
     /// Adds an object after the others. As many as 4,294,967,295 take no more.

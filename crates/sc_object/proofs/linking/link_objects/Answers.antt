@@ -1,4 +1,5 @@
 use Rattle.sc_object.proofs.Links.{can_be, differs, faultless, few_faces, is_missing, is_twice, joins, owns}
+use Rattle.sc_object.proofs.Named.{names_face}
 use Rattle.sc_object.proofs.linking.link_objects.Goals as goal
 
 pub check_all-requires : goal.check_all-requires
