@@ -2,8 +2,8 @@
 use Rattle.sc_object.proofs.Common.{AreObjects, Bool, Differ, IsJoinFault, IsObject, List, Missing, None, ObjectParts}
 use Rattle.sc_object.proofs.Common.{Option, OutOfMemory, Some, Twice, [], ap, arith, differ_from, false, has_number}
 use Rattle.sc_object.proofs.Common.{if◌then◌else◌, is_same_program, join_fault, length, missing_from, option_or}
-use Rattle.sc_object.proofs.Common.{refl, slice_get, subst, suc, sym, true, twice_from, zero, ℕ, ◌++◌, ◌+◌, ◌<◌, ◌∙◌, ◌∷◌}
-use Rattle.sc_object.proofs.Common.{◌≡◌, ◌≤◌}
+use Rattle.sc_object.proofs.Common.{refl, slice_get, subst, suc, sym, true, twice_from, zero, ℕ, ◌++◌, ◌+◌, ◌<◌}
+use Rattle.sc_object.proofs.Common.{◌∙◌, ◌∷◌, ◌≡◌, ◌≤◌}
 use Rattle.sc_linker.proofs.Places.{all_here}
 use Rattle.sc_object.proofs.Found.{all_say_same}
 use Rattle.sc_object.specs.Linking.{NamesFace}

@@ -2,7 +2,7 @@
 use Rattle.sc_top.proofs.Common.{Accepts, Answers, Check, Command, Compile, Exec, Explain, Fails, Failure}
 use Rattle.sc_top.proofs.Common.{HasExplanation, IsAnswer, IsBadAt, IsErrOf, IsGood, IsGoodText, IsImage, IsInput}
 use Rattle.sc_top.proofs.Common.{IsObjectOutput, IsOutput, IsPolicyRead, IsTextOutput, IsUndisturbed, IsWhole, IsWithin}
-use Rattle.sc_top.proofs.Common.{IsWithinLimit, Judge, Link, List, Make, Meaning, None, Object, Option, PolicyRead}
+use Rattle.sc_top.proofs.Common.{IsWithinLimit, Judge, List, Make, Meaning, None, Object, Option, PolicyRead}
 use Rattle.sc_top.proofs.Common.{ProgramTree, Result, Run, RunOptions, SameAnswer, Says, Some, Status, Takes, Traffic}
 use Rattle.sc_top.proofs.Common.{ap, append-nil, arith, built_image, comp_named, drop, inl, inr, intake, length}
 use Rattle.sc_top.proofs.Common.{length-append, limit_of, lines_of, none-some, refl, section_of, status_by, subst, sym}
@@ -11,6 +11,7 @@ use Rattle.sc_lex.specs.declared.refusal.Phase.{Phase}
 use Rattle.sc_lex.specs.declared.refusal.Phase.TheVariants.{Syntax}
 use Rattle.sc_object.specs.Prelude.{BytesNameOneList, OneFirstBad}
 use Rattle.sc_top.specs.Answer.{HasRead}
+use Rattle.sc_top_words.specs.declared.command.Command.TheVariants as commands
 use Rattle.sc_top_words.specs.declared.command.ObjectOptions.{ObjectOptions}
 use Rattle.sc_top.specs.declared.failure.Failure.TheVariants as failure
 use Rattle.sc_top.specs.declared.status.Status.TheVariants as status
@@ -58,7 +59,7 @@ reads_nothing Check none = absurd (none-some 8388608 (sym none))
 reads_nothing (Meaning options) none = absurd (none-some 8388608 (sym none))
 reads_nothing Compile none = absurd (none-some 1048576 (sym none))
 reads_nothing (Object options) none = absurd (none-some 1048576 (sym none))
-reads_nothing Link none = absurd (none-some 67108864 (sym none))
+reads_nothing commands.Link none = absurd (none-some 67108864 (sym none))
 reads_nothing (Run options) none = absurd (none-some 1048576 (sym none))
 reads_nothing (Explain options show) none = absurd (none-some 1048576 (sym none))
 reads_nothing (Judge options) none = absurd (none-some 1048576 (sym none))
@@ -160,7 +161,8 @@ good_text c plain text out o = record {
   fits = λ compiled. fits_of _ _ o.image (o.compiled compiled).compiled;
 }
 
-explained_text : (c : Command) → section_of c ≡ None → (options : RunOptions) (text : List ℕ) → HasExplanation options text → IsGoodText c text
+explained_text : (c : Command) → section_of c ≡ None → (options : RunOptions) (text : List ℕ) →
+    HasExplanation options text → IsGoodText c text
 explained_text c plain options text has = record {
   program = has.source.program;
   there = asks_none c plain has.source.program;
@@ -185,7 +187,7 @@ good_output Check bytes out o = good_text Check refl bytes out o
 good_output (Meaning options) bytes out o = good_text (Meaning options) refl bytes out o
 good_output Compile bytes out o = good_text Compile refl bytes out o
 good_output (Object options) bytes out o = object_text options bytes out o
-good_output Link bytes out o = o.can
+good_output commands.Link bytes out o = o.can
 good_output (Run options) bytes out o = good_text (Run options) refl bytes out o
 good_output (Explain options show) bytes out o = explained_text (Explain options show) refl options bytes o.has
 good_output (Judge options) bytes out o = record {

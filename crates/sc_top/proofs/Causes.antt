@@ -4,7 +4,7 @@ use Rattle.sc_top.proofs.Common.{LacksSection, None, Option, PolicyRead, Program
 use Rattle.sc_top.proofs.Common.{bad_join_in, cause_in, cause_number, comp_named, drop, lines_of, min, none-some}
 use Rattle.sc_top.proofs.Common.{option_and_then, option_map, read_cause, refl, subst, sym, too_large, ℕ, ◌∙◌}
 use Rattle.sc_top.proofs.Common.{◌≡◌, CanBeLinked, HasBadJoin, HasBadObject, HasSection, HoldsAfterPolicy, HoldsOfText}
-use Rattle.sc_top.proofs.Common.{IsSome, false≢true}
+use Rattle.sc_top.proofs.Common.{IsSome, ap₂, false≢true}
 use Rattle.sc_image.proofs.Whole.{is_read_again}
 use Rattle.sc_lex.specs.declared.refusal.Phase.{Phase}
 use Rattle.sc_lex.specs.declared.refusal.Phase.TheVariants.{Syntax}
@@ -278,7 +278,7 @@ module _
       let index = one_first.index bytes i j a.why b.why a.first b.first in
       let cause = a.number ∙ (ap object_cause (one_first.cause bytes i j a.why b.why a.first b.first) ∙
       sym b.number) in
-      λ x. status.BadObject (index x) (cause x)
+      ap₂ status.BadObject index cause
 
   one_join : (bytes : List ℕ) (fault other : join.BadJoin) → HasBadJoin bytes fault → HasBadJoin bytes other →
       fault ≡ other

@@ -1,8 +1,8 @@
 -- Objects of sections, and the images that are linked: outputs and their causes.
 use Rattle.sc_top.proofs.Common.{Accepts, Failure, HasSection, IsCompiling, IsJoining, IsLinked, IsObjectOutput}
-use Rattle.sc_top.proofs.Common.{IsOutputCause, IsSome, IsWellTyped, List, Link, None, Object, ProgramTree, Some, ap}
+use Rattle.sc_top.proofs.Common.{IsOutputCause, IsSome, IsWellTyped, List, None, Object, ProgramTree, Some, ap}
 use Rattle.sc_top.proofs.Common.{arith, bad_join_in, comp_named, join_by_name, leb-true, length, of_join}
-use Rattle.sc_top.proofs.Common.{of_join_fault, option_and_then, refl, subst, sym, ℕ, ◌<◌, ◌∙◌, ◌×◌, ◌≡◌}
+use Rattle.sc_top.proofs.Common.{of_join_fault, option_and_then, refl, subst, sym, ℕ, ◌<◌, ◌∙◌, ◌≡◌}
 use Rattle.sc_core.specs.Prelude.{has_few_compartments}
 use Rattle.sc_event.specs.declared.interface.Interface.{Interface}
 use Rattle.sc_image.specs.Prelude.{IsWellFormed, image_bytes}
@@ -14,6 +14,7 @@ use Rattle.sc_object.specs.declared.linking.JoinFault.{JoinFault}
 use Rattle.sc_object.specs.declared.linking.JoinFault.TheVariants as joining
 use Rattle.sc_object.specs.declared.parts.ObjectParts.{ObjectParts}
 use Rattle.sc_base.proofs.Bools.{and_first}
+use Rattle.sc_top_words.specs.declared.command.Command.TheVariants as commands
 use Rattle.sc_top_words.specs.declared.command.ObjectOptions.{ObjectOptions}
 use Rattle.sc_top.specs.declared.failure.Failure.TheVariants as failure
 use Rattle.sc_top.proofs.Known.{sections_are}
@@ -76,12 +77,12 @@ module _ (options : ObjectOptions) (bytes : List ℕ) (program other : ProgramTr
 
 -- the first bad object is why nothing is linked
 pub bad_object : (bytes : List ℕ) (index : ℕ) (cause : BadObject) → IsFirstBad bytes index cause →
-    IsOutputCause Link bytes (failure.BadObject index (cause_number cause))
+    IsOutputCause commands.Link bytes (failure.BadObject index (cause_number cause))
 bad_object bytes index cause first = record { why = cause; first = first; number = refl }
 
 -- and so is what doesn't fit
 pub join_cause : (bytes : List ℕ) (objects : List ObjectParts) (f : Failure) → AreBytesOf objects bytes →
-    IsJoining objects f → IsOutputCause Link bytes f
+    IsJoining objects f → IsOutputCause commands.Link bytes f
 join_cause bytes objects failure.Usage read why = why
 join_cause bytes objects (failure.Refused refusal) read why = why
 join_cause bytes objects (failure.TooLarge fault) read why = why

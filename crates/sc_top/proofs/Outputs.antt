@@ -4,11 +4,12 @@ use Rattle.sc_top.proofs.Common.{IsExecuted, IsMadeBy, IsOutput, IsOutputCause, 
 use Rattle.sc_top.proofs.Common.{ProgramTree, RunOptions, [], ap, compiles, false, image_interfaces, machine_text}
 use Rattle.sc_top.proofs.Common.{HoldsOfText, IsPolicyRead, IsUnfit, PolicyRead, intake, output}
 use Rattle.sc_top.proofs.Common.{refl, subst, sym, true, ℕ, ◌∙◌, ◌≡◌, HasSection, IsLinked, IsObjectOutput, None}
-use Rattle.sc_top.proofs.Common.{Ok, Some, ap₂, comp_named, image_of, none-some, section_of}
+use Rattle.sc_top.proofs.Common.{Some, ap₂, comp_named, none-some, section_of}
 use Rattle.sc_object.specs.Prelude.{BytesNameOneList, IsJoined, join_as, object_bytes, object_of}
 use Rattle.sc_image.specs.Prelude.{image_bytes}
 use Rattle.sc_top_words.specs.declared.command.Command.TheVariants as commands
 use Rattle.sc_top.specs.declared.failure.Failure.TheVariants as failure
+use Rattle.sc_top.proofs.Causes.{same_some}
 use Rattle.sc_top.proofs.Chains.{one_account, one_summary, one_verdict}
 
 -- a command that asks for no section has what it asks for
@@ -131,11 +132,12 @@ module _
       IsObjectOutput section bytes other → text ≡ other
   one_object section bytes text other is known =
       let program = one_program bytes is.program known.program is.accepted known.accepted in
-      let compiled = subst (λ p. image_of p ≡ Ok is.is.image) program is.is.compiled in
-      let image : is.is.image ≡ known.is.image =
-      let same = sym compiled ∙ known.is.compiled in cc same in
+      let has : HasImage is.program is.is.image = record { compiled = is.is.compiled; right = is.is.right } in
+      let image = one_image known.program is.is.image known.is.image
+      (subst (λ p. HasImage p is.is.image) program has)
+      (record { compiled = known.is.compiled; right = known.is.right }) in
       let named = subst (λ (p : ProgramTree). comp_named p.interfaces section ≡ Some is.comp) program is.named in
-      let comp : is.comp ≡ known.comp = let same = sym named ∙ known.named in cc same in
+      let comp = same_some _ is.comp known.comp named known.named in
       is.written ∙ (ap object_bytes (is.is.is ∙ (ap₂ object_of image comp ∙ sym known.is.is)) ∙ sym known.written)
 
   one_linked : BytesNameOneList → (bytes text other : List ℕ) → IsLinked bytes text → IsLinked bytes other →
@@ -143,28 +145,25 @@ module _
   one_linked one bytes text other is known =
       let same = one bytes is.can.objects known.can.objects is.can.read known.can.read in
       let joined = subst (λ objects. IsJoined objects is.image) same is.joined in
-      let head : joined.head ≡ known.joined.head =
-      let heads = sym joined.first ∙ known.joined.first in cc heads in
+      let head = same_some _ joined.head known.joined.head joined.first known.joined.first in
       is.written ∙ (ap image_bytes (joined.joined ∙ (ap (λ h. join_as h known.can.objects) head ∙
       sym known.joined.joined)) ∙ sym known.written)
 
-  -- a command has one output
-  pub one_output : BytesNameOneImage → BytesNameOneList → ((bytes : List ℕ) (one other : PolicyRead) → IsPolicyRead bytes one →
-      IsPolicyRead bytes other → one ≡ other) → (command : Command) (bytes text other : List ℕ) →
-      IsOutput command bytes text →
-      IsOutput command bytes other → text ≡ other
-  one_output one one_list one_policy commands.Check bytes text other is known = one_text _ bytes text other is known
-  one_output one one_list one_policy (commands.Meaning options) bytes text other is known = one_text _ bytes text other is known
-  one_output one one_list one_policy commands.Compile bytes text other is known = one_text _ bytes text other is known
-  one_output one one_list one_policy (commands.Object options) bytes text other is known =
-      one_object options.section bytes text other is known
-  one_output one one_list one_policy commands.Link bytes text other is known =
-      one_linked one_list bytes text other is known
-  one_output one one_list one_policy (commands.Run options) bytes text other is known = one_text _ bytes text other is known
-  one_output one one_list one_policy (commands.Explain options show) bytes text other is known =
-      one_account one_program options show bytes text other is known
-  one_output one one_list one_policy (commands.Judge options) bytes text other is known =
-      one_verdict one_program one_policy options bytes text other is known
-  one_output one one_list one_policy (commands.Exec options) bytes text other is known =
-      one_run one options bytes text other is known
-  one_output one one_list one_policy (commands.Make options) bytes text other is known = one_made _ options text other is known
+  module _ (one : BytesNameOneImage) (one_list : BytesNameOneList) (one_policy : (bytes : List ℕ)
+      (one other : PolicyRead) → IsPolicyRead bytes one → IsPolicyRead bytes other → one ≡ other) where
+    -- a command has one output
+    pub one_output : (command : Command) (bytes text other : List ℕ) → IsOutput command bytes text →
+        IsOutput command bytes other → text ≡ other
+    one_output commands.Check bytes text other is known = one_text _ bytes text other is known
+    one_output (commands.Meaning options) bytes text other is known = one_text _ bytes text other is known
+    one_output commands.Compile bytes text other is known = one_text _ bytes text other is known
+    one_output (commands.Object options) bytes text other is known =
+        one_object options.section bytes text other is known
+    one_output commands.Link bytes text other is known = one_linked one_list bytes text other is known
+    one_output (commands.Run options) bytes text other is known = one_text _ bytes text other is known
+    one_output (commands.Explain options show) bytes text other is known =
+        one_account one_program options show bytes text other is known
+    one_output (commands.Judge options) bytes text other is known =
+        one_verdict one_program one_policy options bytes text other is known
+    one_output (commands.Exec options) bytes text other is known = one_run one options bytes text other is known
+    one_output (commands.Make options) bytes text other is known = one_made _ options text other is known

@@ -189,8 +189,8 @@ IsAnswer command bytes ReadFault = ⊥
 IsAnswer command bytes WriteFault = ⊥
 IsAnswer command bytes OutOfMemory = ⊥
 
--- good input: a good text, a policy and a good text, the bytes of an image, those of objects that are linked, or anything
--- where a command reads nothing
+-- good input: a good text, a policy and a good text, the bytes of an image, those of objects that are linked, or
+-- anything where a command reads nothing
 abbrev pub IsGoodIn : Intake → Command → List ℕ → Type 0
 IsGoodIn (Text limit) command bytes = IsGoodText command bytes
 IsGoodIn (PolicyAndText limit) command bytes = HoldsAfterPolicy bytes (IsGoodText command)

@@ -7,7 +7,7 @@ use Rattle.sc_lex.specs.declared.fault.TextFault.{TextFault}
 use Rattle.sc_lex.specs.declared.fault.TextFault.TheVariants as text
 use Rattle.sc_object.specs.Prelude.{cause_number as object_cause}
 use Rattle.sc_object.specs.declared.fault.ObjectsFault.{ObjectsFault}
-use Rattle.sc_object.specs.declared.fault.ObjectsFault.TheVariants as objects
+use Rattle.sc_object.specs.declared.fault.ObjectsFault.TheVariants as objects_fault
 use Rattle.sc_object.specs.declared.linking.JoinFault.{JoinFault}
 use Rattle.sc_object.specs.declared.parts.ObjectParts.{ObjectParts}
 use Rattle.sc_policy.specs.declared.fault.PolicyFault.{PolicyFault}
@@ -44,8 +44,8 @@ of_image_fault (image.Bad cause) = BadImage (cause_number cause)
 of_image_fault image.OutOfMemory = OutOfMemory
 
 abbrev pub of_objects_fault : ObjectsFault → Failure
-of_objects_fault (objects.Bad index cause) = BadObject index (object_cause cause)
-of_objects_fault objects.OutOfMemory = OutOfMemory
+of_objects_fault (objects_fault.Bad index cause) = BadObject index (object_cause cause)
+of_objects_fault objects_fault.OutOfMemory = OutOfMemory
 
 abbrev pub of_join : Option join.BadJoin → Failure
 of_join None = OutOfMemory

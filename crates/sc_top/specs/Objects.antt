@@ -7,7 +7,7 @@ use Rattle.sc_event.specs.declared.interface.Interface.{Interface}
 use Rattle.sc_image.specs.Prelude.{IsWellFormed}
 use Rattle.sc_image.specs.declared.parts.ImageParts.{ImageParts}
 use Rattle.sc_object.specs.Prelude.{AreBytesOf, IsFirstBad, IsJoined, cause_number, face_for, join_fault}
-use Rattle.sc_object.specs.declared.fault.BadObject as objects
+use Rattle.sc_object.specs.declared.fault.BadObject.{BadObject}
 use Rattle.sc_object.specs.declared.linking.JoinFault.{JoinFault}
 use Rattle.sc_object.specs.declared.linking.JoinFault.TheVariants as joining
 use Rattle.sc_object.specs.declared.parts.ObjectParts.{ObjectParts}
@@ -38,7 +38,7 @@ HasSection command program =
 
 -- the object of this index is the first bad one in the bytes, for the cause of this number
 pub record HasBadObject (bytes : List ℕ) (index cause : ℕ) : Type 0 where
-  pub why : objects.BadObject
+  pub why : BadObject
   pub first : IsFirstBad bytes index why
   pub number : cause ≡ cause_number why
 

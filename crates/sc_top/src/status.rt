@@ -61,8 +61,8 @@ pub enum Status {
     WriteFault,
     /// Memory ran out before anything was written.
     OutOfMemory,
-    /// The object of this index, counted from 0, is bad: the number of the first thing that is wrong with it, 1 to 9 in the
-    /// order of its bytes.
+    /// The object of this index, counted from 0, is bad: the number of the first thing that is wrong with it, 1 to 9 in
+    /// the order of its bytes.
     BadObject { index: u32, cause: u8 },
     /// The objects aren't linked.
     BadJoin(BadJoin),

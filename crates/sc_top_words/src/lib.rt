@@ -11,8 +11,8 @@
 //! | `make` | `--size K`, `--seed N`, `--summary` |
 //!
 //! The first word is the command. An option is written `--name value` or `--name=value`, in any order, and at most
-//! once. A value in a word of its own doesn't begin with a hyphen. `--summary` is a flag. `make` needs its other two, and
-//! `object` its one.
+//! once. A value in a word of its own doesn't begin with a hyphen. `--summary` is a flag. `make` needs its other two,
+//! and `object` its one.
 //! Every other word makes the words no command, also `--`, `-h`, `--help`, `help` and an abbreviation.
 //!
 //! | value | what it may be | where the option isn't given |
