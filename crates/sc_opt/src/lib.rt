@@ -3,6 +3,7 @@
 
 mod constants;
 mod facts;
+mod known;
 mod laws;
 mod pass;
 mod program;
