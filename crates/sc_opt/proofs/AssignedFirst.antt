@@ -21,9 +21,10 @@ use Rattle.sc_opt.specs.Pass.{operator_code, pass, pass_step, present}
 use Rattle.sc_opt.proofs.Joined.{AtMost, below_first, below_rest, decide, not_same, other_way}
 use Rattle.sc_opt.proofs.Agreement.{AreSources, Moved}
 use Rattle.sc_opt.specs.declared.facts.Assigned.{Assigned}
-use Rattle.sc_opt.specs.declared.facts.Assigned.TheVariants.{ByConstant, ByCopy, Nowhere, Otherwise, Several}
+use Rattle.sc_opt.specs.declared.facts.Assigned.TheVariants.{ByConstant, ByCopy, ByOperator, Nowhere, Otherwise}
+use Rattle.sc_opt.specs.declared.facts.Assigned.TheVariants.{Several}
 
-module _ (table : ℕ → Assigned) (source : ℕ → ℕ) (used holds_word : ℕ → Bool)
+module _ (table : ℕ → Assigned) (constants : ℕ → Option Constant) (source : ℕ → ℕ) (used holds_word : ℕ → Bool)
     (are_sources : AreSources table source used holds_word) (x : ℕ)
     (is_used : used x ≡ true) where
   source_plain : (d : ℕ) (y : Assigned) → AtMost y (table d) → (y ≡ Nowhere → ⊥) → ((u : ℕ) → y ≡ ByCopy u → ⊥) →
@@ -58,7 +59,7 @@ module _ (table : ℕ → Assigned) (source : ℕ → ℕ) (used holds_word : �
   fresh_of (Some stmt) ahead = (reading x stmt).fresh ahead
 
   abbrev passes : TacStmt → Option TacStmt
-  passes = pass table source used holds_word
+  passes = pass constants source used holds_word
 
   abbrev Known : TacStmt → Type 0
   Known stmt = (t : ℕ) → AtMost (assigned t stmt) (table t)
@@ -266,7 +267,7 @@ module _ (table : ℕ → Assigned) (source : ℕ → ℕ) (used holds_word : �
   abbrev LiftedAt : TacStmt-F TacStmt → Type 0
   LiftedAt k = ((t : ℕ) → AtMost (assigned_at k t) (table t)) →
       Lifts (assigned_at k) (λ t. (reading_at k t).first) (λ t. (reading_at k t).fresh)
-      (pass_step table source used holds_word (map-TacStmt _ _ passes k))
+      (pass_step constants source used holds_word (map-TacStmt _ _ passes k))
 
   otherwise_home : (d : ℕ) → AtMost (if d == d || false then Otherwise else Nowhere) (table d) → source d ≡ d
   otherwise_home d below = source_plain d Otherwise
@@ -416,9 +417,11 @@ module _ (table : ℕ → Assigned) (source : ℕ → ℕ) (used holds_word : �
         (λ e. e)
 
   op_lifts : (d : ℕ) (o : TacOp) (left : ℕ) (right : Option ℕ) → LiftedAt (tac.Op d o left right)
-  op_lifts d o left right below = by (folded table o left right) where
+  op_lifts d o left right below = by (folded constants o left right) where
     home : source d ≡ d
-    home = otherwise_home d (below d)
+    home = source_plain d (ByOperator o left right) (subst (λ y. AtMost y (table d))
+        (ap (λ b. if b then ByOperator o left right else Nowhere) (eq-eqb d d refl)) (below d)) (λ h. absurd (cc h))
+        (λ u h. absurd (cc h))
 
     neither : (u t : Bool) → (u || t) ≡ false → u ≡ false
     neither true t h = h
@@ -525,8 +528,8 @@ module _ (table : ℕ → Assigned) (source : ℕ → ℕ) (used holds_word : �
   stmt_lifted = stmt_induction Lifted (λ k i below.
       let lifts = layer_lifts k i (λ t. subst (λ y. AtMost y (table t)) (fold-roll-TacStmt Assigned
       (assigned_step t) k) (below t)) in
-      let pass_is : passes (roll-TacStmt k) ≡ pass_step table source used holds_word (map-TacStmt _ _ passes k) =
-      fold-roll-TacStmt (Option TacStmt) (pass_step table source used holds_word) k in
+      let pass_is : passes (roll-TacStmt k) ≡ pass_step constants source used holds_word (map-TacStmt _ _ passes k) =
+      fold-roll-TacStmt (Option TacStmt) (pass_step constants source used holds_word) k in
       record {
         live = λ aheads ahead over h. some_with (λ t. (reading_at k t).first (aheads t))
             (λ t. (reading t (roll-TacStmt k)).first (aheads t))

@@ -5,7 +5,8 @@ use Rattle.sc_opt.specs.Pass.{copies_one, is_once, source_by, copy_source, copy_
 use Rattle.sc_opt.proofs.Joined.{not_same}
 use Rattle.sc_opt.proofs.Agreement.{AreSources, Moved}
 use Rattle.sc_opt.specs.declared.facts.Assigned.{Assigned}
-use Rattle.sc_opt.specs.declared.facts.Assigned.TheVariants.{ByConstant, ByCopy, Nowhere, Otherwise, Several}
+use Rattle.sc_opt.specs.declared.facts.Assigned.TheVariants.{ByConstant, ByCopy, ByOperator, Nowhere, Otherwise}
+use Rattle.sc_opt.specs.declared.facts.Assigned.TheVariants.{Several}
 
 module _ (table : ℕ → Assigned) (used holds_word : ℕ → Bool) where
   abbrev IsSource : ℕ → Type 0
@@ -41,6 +42,7 @@ module _ (table : ℕ → Assigned) (used holds_word : ℕ → Bool) where
     by (ByCopy u) h = ap (λ b. if b then (if nat_lt u t then copy_sources table t u else (if copies_one table
         (table u) then t else u))
         else t) h
+    by (ByOperator o left right) h = refl
     by Otherwise h = refl
     by Several h = refl
 
@@ -91,6 +93,7 @@ module _ (table : ℕ → Assigned) (used holds_word : ℕ → Bool) where
       by : (b : Bool) → is_once (table u) ≡ b → IsSource t
       by true once = copied u is once
       by false n = inl (at_home t (ap (copies_one table) is ∙ n))
+    one_more (ByOperator o left right) is = inl (at_home t (ap (copies_one table) is))
     one_more Otherwise is = inl (at_home t (ap (copies_one table) is))
     one_more Several is = inl (at_home t (ap (copies_one table) is))
 

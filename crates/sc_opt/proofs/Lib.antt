@@ -4,6 +4,7 @@ pub mod Related
 pub mod Values
 pub mod Steps
 pub mod Kept
+pub mod AllKnown
 pub mod Copies
 pub mod Fitting
 pub mod UsedReads
@@ -32,6 +33,7 @@ pub mod Noting
 pub mod Marking
 pub mod Telling
 pub mod Sourcing
+pub mod Knowing
 pub mod Making
 pub mod Stepping
 pub mod Made

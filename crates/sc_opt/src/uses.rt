@@ -67,8 +67,8 @@ fn mark_copy(origins: &Origins, marks: &mut Marks, dest: u32, from: u32)
 // Nor does an operator that is folded.
 fn mark_operator(origins: &Origins, marks: &mut Marks, op: TacOp, left: u32, right: Option<u32>)
     ensures { (x : ℕ) → slice_get marks.new x ≡
-        marked (reads_unless (source_at origins.now.sources) (folded (constant_at origins.now.constants) op left right) x
-        (left ∷ one_or_none right)) (slice_get marks.old x) }
+        marked (reads_unless (source_at origins.now.sources) (folded (constant_at origins.now.constants) op left right)
+        x (left ∷ one_or_none right)) (slice_get marks.old x) }
 {
     if folded(&origins.constants, op, left, right).is_none() {
         mark(origins, marks, left);
@@ -78,7 +78,8 @@ fn mark_operator(origins: &Origins, marks: &mut Marks, op: TacOp, left: u32, rig
 
 #[cycle(mark)]
 fn mark_all(origins: &Origins, marks: &mut Marks, stmts: &TacStmts)
-    ensures { MarksAll (constant_at origins.now.constants) (source_at origins.now.sources) stmts.now marks.old marks.new }
+    ensures { MarksAll (constant_at origins.now.constants) (source_at origins.now.sources) stmts.now marks.old
+        marks.new }
 {
     for stmt in stmts.as_slice() {
         mark_stmt(origins, marks, stmt);
@@ -87,7 +88,8 @@ fn mark_all(origins: &Origins, marks: &mut Marks, stmts: &TacStmts)
 
 #[cycle(mark)]
 fn mark_stmt(origins: &Origins, marks: &mut Marks, stmt: &TacStmt)
-    ensures { MarksStmt (constant_at origins.now.constants) (source_at origins.now.sources) stmt.now marks.old marks.new }
+    ensures { MarksStmt (constant_at origins.now.constants) (source_at origins.now.sources) stmt.now marks.old
+        marks.new }
 {
     match stmt {
         TacStmt::Copy { dest, from } => mark_copy(origins, marks, *dest, *from),
@@ -136,8 +138,8 @@ pub fn uses_of(
     origins: &Origins,
     body: &TacStmts,
 ) -> Result<Marks, OutOfMemory>
-    ensures { IfOk result (λ marks. MarksAll (constant_at origins.now.constants) (source_at origins.now.sources) body.now
-        (replicate temps false) marks) }
+    ensures { IfOk result (λ marks. MarksAll (constant_at origins.now.constants) (source_at origins.now.sources)
+        body.now (replicate temps false) marks) }
 {
     let mut marks = no_marks(alloc, temps)?;
     mark_all(origins, &mut marks, body);
