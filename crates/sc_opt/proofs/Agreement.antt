@@ -88,7 +88,7 @@ module _ (table : ℕ → Assigned) (constants : ℕ → Option Constant) (sourc
 
   module _ (are_sources : AreSources table source used holds_word) (live following : TempSet) (g a b b' : Temps)
       (d : ℕ) (v : Value) (p : TempsAgree live g a b) (gains : Gains g b b' d v) where
-    -- nothing else is read where this is assigned_first
+    -- nothing else is read where this is assigned
     not_source : {B : Type 0} (t : ℕ) (w : Value) → (t == d) ≡ false → g t ≡ Some w → source t ≡ d → B
     not_source {B} t w n e is = by (are_sources t) where
       by : ((source t ≡ t) ⊎ Moved table source used holds_word t) → B

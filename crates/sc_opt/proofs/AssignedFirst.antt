@@ -155,7 +155,7 @@ module _ (table : ℕ → Assigned) (constants : ℕ → Option Constant) (sourc
   abbrev plain_at : List ℕ → Option ℕ → ℕ → Ahead → Bool
   plain_at reads dest t ahead = is_one t reads || (not (is_one t (one_or_none dest)) && ahead.following)
 
-  -- the statement stays: it reads at the copy_sources, and assigns what it assigned_first
+  -- the statement stays: it reads at the sources, and assigns what it assigned
   stays_live : (reads : List ℕ) (dest : Option ℕ) → ((d : ℕ) → dest ≡ Some d → source d ≡ d) →
       (aheads : ℕ → Ahead) (ahead : Ahead) → Over aheads ahead → plain_at (map source reads) dest x ahead ≡ true →
       Some_at (λ t. plain_at reads dest t (aheads t))
@@ -181,7 +181,7 @@ module _ (table : ℕ → Assigned) (constants : ℕ → Option Constant) (sourc
           holds = kept dest home k (and_first (not (is_one x (one_or_none dest))) _ on);
         }
 
-  -- it went, and nobody reads what it assigned_first
+  -- it went, and nobody reads what it assigned
   goes_live : (reads : List ℕ) (d : ℕ) → source d ≡ d → used d ≡ false → (aheads : ℕ → Ahead) (ahead : Ahead) →
       Over aheads ahead → ahead.following ≡ true → Some_at (λ t. plain_at reads (Some d) t (aheads t))
   goes_live reads d home unread aheads ahead over h = let k = over.following h in
@@ -274,7 +274,7 @@ module _ (table : ℕ → Assigned) (constants : ℕ → Option Constant) (sourc
       (subst (λ y. AtMost y (table d)) (ap (λ b. if b || false then Otherwise else Nowhere)
       (eq-eqb d d refl)) below) some_otherwise no_copy
 
-  -- a statement that stays, with its reads at the copy_sources
+  -- a statement that stays, with its reads at the sources
   plain_stays : (known : ℕ → Assigned) (reads : List ℕ) (dest : Option ℕ) (k : TacStmt-F TacStmt) →
       ((d : ℕ) → dest ≡ Some d → source d ≡ d) →
       ((ahead : Ahead) → (reading x (roll-TacStmt k)).first ahead ≡ plain_at (map source reads) dest x ahead) →
@@ -539,7 +539,7 @@ module _ (table : ℕ → Assigned) (constants : ℕ → Option Constant) (sourc
             (λ t. sym (ap (λ r. r.fresh (aheads t)) (fold-roll-TacStmt Reading (reading_step t) k)) ∙ h t);
       })
 
-  -- a used temporary is assigned_first before it is read in the code that the pass gives
+  -- a used temporary is assigned before it is read in the code that the pass gives
   pub stays_assigned : (body : List TacStmt) → ((t : ℕ) → AtMost (all_joined (map (assigned t) body)) (table t)) →
       ((t : ℕ) → is_assigned_first t body ≡ true) → is_assigned_first x (present (map passes body)) ≡ true
   stays_assigned body below assigned_first = and_from (not (row_read body nothing_ahead)) _

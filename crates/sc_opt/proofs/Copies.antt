@@ -33,7 +33,7 @@ module _ (table : ℕ → Assigned) (used holds_word : ℕ → Bool) where
         (table n) else copy_sources table n t) is
         ∙ less (strict n t h (not_same {B = ⊥} t n is))
 
-  -- where a temporary isn't a copy of one that is assigned_first in one place
+  -- where a temporary isn't a copy of one that is assigned in one place
   pub at_home : (t : ℕ) → copies_one table (table t) ≡ false → copy_source table t ≡ t
   at_home t other = here t ∙ by (table t) other where
     by : (x : Assigned) → copies_one table x ≡ false → source_by table (copy_sources table t) t x ≡ t

@@ -320,7 +320,7 @@ module _ (constants : ℕ → Option Constant) (source : ℕ → ℕ) (used hold
       untouched_reads (tac.Input dest) n h = refl
       untouched_reads _ n h = absurd (cc n)
 
-  -- copy_sources are temporaries of the function
+  -- sources are temporaries of the function
   module _ (temps : ℕ) (inside : (t : ℕ) → nat_lt t temps ≡ true → nat_lt (source t) temps ≡ true) where
     abbrev own : List ℕ → Bool
     own ts = list_all (λ t. nat_lt t temps) ts

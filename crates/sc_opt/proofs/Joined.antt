@@ -48,7 +48,7 @@ never_both x y h = absurd (cc h)
 once_only : {B : Type 0} (z : Assigned) → is_once z ≡ true → z ≡ Several → B
 once_only z once is = let no : false ≡ true = sym (ap is_once is) ∙ once in absurd (cc no)
 
--- what is assigned_first in one place is assigned_first in one of two parts alone
+-- what is assigned in one place is assigned in one of two parts alone
 pub one_part : (x y z : Assigned) → is_once z ≡ true → AtMost (joined x y) z → (x ≡ Nowhere) ⊎ (y ≡ Nowhere)
 one_part Nowhere y z once h = inl refl
 one_part (ByConstant c) Nowhere z once h = inr refl

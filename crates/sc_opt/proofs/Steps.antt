@@ -40,7 +40,7 @@ module _ (table : ℕ → Assigned) (constants : ℕ → Option Constant) (sourc
       ≡ code_step arith here by (map-TacStmt _ _ (stmt_does arith here by) k) b s
   rolled by k b s = ap (λ f. f b s) (fold-roll-TacStmt Codes (code_step arith here by) k)
 
-  -- what isn't assigned_first by a copy alone is read where it is
+  -- what isn't assigned by a copy alone is read where it is
   pub plain_source : (d : ℕ) (x : Assigned) → AtMost x (table d) → (x ≡ Nowhere → ⊥) → ((u : ℕ) → x ≡ ByCopy u → ⊥) →
       source d ≡ d
   plain_source d x below some no_copy = by (are_sources d) below where
@@ -101,7 +101,7 @@ module _ (table : ℕ → Assigned) (constants : ℕ → Option Constant) (sourc
     piece_related (Stopped end s) f h k = record { related = record { other = _; is = refl; same = refl } }
 
     module _ (first : TempSet) (a b : Temps) (p : At table constants source used holds_word first g a b) where
-      -- control goes on, and nothing was assigned_first
+      -- control goes on, and nothing was assigned
       pub stays : (s : State) → ((t : ℕ) → lives.following t ≡ true → first t ≡ true) →
           R (leave Next a s) (leave Next b s)
       stays s on = record {

@@ -14,6 +14,6 @@ pub use Rattle.sc_opt.specs.Tables.{MarksAll, MarksStmt, Notes, NotesAll, NotesS
 pub use Rattle.sc_opt.specs.Tables.{copy_by, facts_at, holds_word_at, keep_when, marked, noted, nothing_known}
 pub use Rattle.sc_opt.specs.Tables.{operator_by, operator_from, pass_by, passed_by, reads_stmt, source_at, used_at}
 pub use Rattle.sc_opt.specs.Tables.{with_fact, words_alone}
-pub use Rattle.sc_opt.specs.Laws.{EachFunction, KeepsFunction, KeepsRules, KeepsSection, KeepsShape}
+pub use Rattle.sc_opt.specs.Laws.{ChainGoesAtOnce, EachFunction, KeepsFunction, KeepsRules, KeepsSection, KeepsShape}
 pub use Rattle.sc_opt.specs.Laws.{OptimiserKeepsMeaning, OptimiserKeepsRules, OptimiserKeepsShape, ResultsAreLean}
 pub use Rattle.sc_opt.specs.Laws.{RunsAlike}
