@@ -91,8 +91,8 @@ fn check(program: &Program, tac: &Tac) -> Result<(), CompileFault>
     check_sizes(tac.tree().sections.as_slice())
 }
 
-/// The image of a program: lowered to three-address code that is optimised, with registers by linear scan, frames laid out, instructions
-/// selected and linked.
+/// The image of a program: lowered to three-address code that is optimised, with registers by linear scan, frames laid
+/// out, instructions selected and linked.
 pub fn compile(alloc: Global, program: &Program) -> Result<Image, CompileFault>
     ensures image { IfOk result (λ image. image_of program.now ≡ Ok image) }
     ensures fault { IfErr result (IsFault program.now) }

@@ -35,6 +35,16 @@ fn is_constant(stmt: &TacStmt, word: u32) -> bool {
     }
 }
 
+// Whether code outputs this word and returns 0, and computes nothing.
+fn outputs(stmts: &[TacStmt], word: u32) -> bool {
+    match stmts {
+        [value, TacStmt::Output { .. }, zero, TacStmt::Return { .. }] => {
+            is_constant(value, word) && is_constant(zero, 0)
+        }
+        _ => false,
+    }
+}
+
 #[test]
 fn constants_are_folded(rt: HostRuntime) -> Result<(), Fail> {
     let cases: [(&[u8], u32); 6] = [
@@ -48,9 +58,7 @@ fn constants_are_folded(rt: HostRuntime) -> Result<(), Fail> {
     for (expr, word) in cases {
         let text = with_output(rt.alloc(), expr)?;
         let code = optimise(rt.alloc(), &lowered(rt.alloc(), text.as_slice())?)?;
-        let found = body(&code);
-        assert_eq!(rt; found.len(), 4);
-        assert!(rt; found.first().is_some_and(|stmt| is_constant(stmt, word)));
+        assert!(rt; outputs(body(&code), word));
     }
     Ok(())
 }

@@ -33,7 +33,7 @@ fn code_has_these_sizes(rt: HostRuntime) -> Result<(), Fail> {
         (STORE, &[(6, 78, 0, 10), (5, 89, 0, 10)]),
         (LOOPS, &[(34, 426, 5, 48)]),
         (LEFT_OUT, &[(15, 185, 3, 17)]),
-        (BLOCKS, &[(36, 435, 1, 47)]),
+        (BLOCKS, &[(34, 435, 1, 47)]),
         (MEMBERS, &[(23, 326, 1, 33), (14, 155, 0, 18)]),
     ];
     for (text, want) in cases {
