@@ -28,6 +28,7 @@ pub mod FunctionRules
 pub mod ProgramRules
 pub mod Passes
 pub mod Promises
+pub mod Chaining
 pub mod Unchanged
 pub mod Noting
 pub mod Marking

@@ -9,7 +9,7 @@ use Rattle.sc_tac.specs.Prelude.{IsFunction}
 use Rattle.sc_tac.specs.declared.function.TacFnTree.{TacFnTree}
 use Rattle.sc_tac.specs.declared.program.TacSection.{TacSection}
 use Rattle.sc_tac.specs.declared.program.TacTree.{TacTree}
-use Rattle.sc_opt.specs.Laws.{ChainGoesAtOnce, EachFunction, KeepsFunction, KeepsSection, OptimiserKeepsMeaning}
+use Rattle.sc_opt.specs.Laws.{EachFunction, KeepsFunction, KeepsSection, OptimiserKeepsMeaning}
 use Rattle.sc_opt.specs.Laws.{OptimiserKeepsRules, OptimiserKeepsShape, ResultsAreLean}
 use Rattle.sc_opt.specs.Optimised.{optimised, optimised_function, optimised_program, optimised_section}
 use Rattle.sc_opt.specs.Pass.{lean}
@@ -90,6 +90,3 @@ optimiser_keeps_shape program = record {
       (sym (slice_get-map optimised_section program.sections comp))
       (sections_meet (slice_get program.sections comp));
 }
-
-pub chain_goes_at_once : ChainGoesAtOnce
-chain_goes_at_once = refl

@@ -30,7 +30,7 @@ pub fn optimiser_keeps_rules()
 {}
 
 /// A chain of operators on constants becomes one constant in one pass.
-#[tactic(auto, using(crate::proofs::Promises::chain_goes_at_once))]
+#[tactic(auto, using(crate::proofs::Chaining::chain_goes_at_once))]
 pub fn chain_goes_at_once()
     ensures { ChainGoesAtOnce }
 {}
