@@ -5,10 +5,11 @@ use Rattle.sc_core.specs.Prelude.{is_word}
 use Rattle.sc_core.specs.declared.value.Value.{Value}
 use Rattle.sc_tac.specs.Prelude.{TempSet, Temps, constant_value, no_temps, with_temp}
 use Rattle.sc_tac.specs.declared.stmt.Constant.{Constant}
-use Rattle.sc_opt.specs.Pass.{is_once}
+use Rattle.sc_tac.specs.declared.stmt.TacOp.{TacOp}
+use Rattle.sc_opt.specs.Pass.{folded, is_once}
 use Rattle.sc_opt.proofs.Joined.{decide, not_same, with_here, with_other}
 use Rattle.sc_opt.specs.declared.facts.Assigned.{Assigned}
-use Rattle.sc_opt.specs.declared.facts.Assigned.TheVariants.{ByConstant, ByCopy}
+use Rattle.sc_opt.specs.declared.facts.Assigned.TheVariants.{ByConstant, ByCopy, ByOperator}
 
 module _ (table : ℕ → Assigned) (source : ℕ → ℕ) (used holds_word : ℕ → Bool) where
   -- a temporary that is read where its copy comes from
@@ -20,6 +21,18 @@ module _ (table : ℕ → Assigned) (source : ℕ → ℕ) (used holds_word : �
 
   abbrev pub AreSources : Type 0
   AreSources = (t : ℕ) → (source t ≡ t) ⊎ Moved t
+
+-- a temporary that is assigned by an operator on some that hold constants
+module _ (table : ℕ → Assigned) (constants : ℕ → Option Constant) (source : ℕ → ℕ) (used holds_word : ℕ → Bool) where
+  pub record Computed (t : ℕ) (c : Constant) : Type 0 where
+    pub op : TacOp
+    pub left : ℕ
+    pub right : Option ℕ
+    pub assigned : table t ≡ ByOperator op left right
+    pub gives : folded constants op left right ≡ Some c
+
+  abbrev pub AreConstants : Type 0
+  AreConstants = (t : ℕ) (c : Constant) → constants t ≡ Some c → (table t ≡ ByConstant c) ⊎ Computed t c
 
   -- what is live holds the value that it was assigned since the part of the loop began
   pub record Held (a g : Option Value) : Type 0 where
@@ -33,7 +46,7 @@ module _ (table : ℕ → Assigned) (source : ℕ → ℕ) (used holds_word : �
     pub held : (t : ℕ) → live t ≡ true → Held (a t) (g t)
     pub kept : (t : ℕ) (v : Value) → g t ≡ Some v → used (source t) ≡ true → b (source t) ≡ Some v
     pub sourced : (t : ℕ) (v : Value) → g t ≡ Some v → g (source t) ≡ Some v
-    pub constant : (t : ℕ) (c : Constant) (v : Value) → table t ≡ ByConstant c → g t ≡ Some v → v ≡ constant_value c
+    pub constant : (t : ℕ) (c : Constant) (v : Value) → constants t ≡ Some c → g t ≡ Some v → v ≡ constant_value c
     pub words : (t : ℕ) (v : Value) → holds_word t ≡ true → g t ≡ Some v → is_word v ≡ true
 
   -- a temporary gets a value, and what the pass gives has it where it is read
@@ -42,7 +55,7 @@ module _ (table : ℕ → Assigned) (source : ℕ → ℕ) (used holds_word : �
     pub from : (source d ≡ d) ⊎ (g (source d) ≡ Some v)
     pub there : used (source d) ≡ true → b' (source d) ≡ Some v
     pub others : (x : ℕ) → (x == d) ≡ false → b' x ≡ b x
-    pub constant : (c : Constant) → table d ≡ ByConstant c → v ≡ constant_value c
+    pub constant : (c : Constant) → constants d ≡ Some c → v ≡ constant_value c
     pub word : holds_word d ≡ true → is_word v ≡ true
 
   pub less : (live fewer : TempSet) (g a b : Temps) → ((t : ℕ) → fewer t ≡ true → live t ≡ true) →
@@ -73,13 +86,12 @@ module _ (table : ℕ → Assigned) (source : ℕ → ℕ) (used holds_word : �
   value_is d t v w g is e = let same : ◌≡◌ {A = Option Value} (Some v) (Some w) =
       sym (with_here d v g t is) ∙ e in cc same
 
-  module _ (are_sources : AreSources) (live following : TempSet) (g a b b' : Temps) (d : ℕ) (v : Value)
-      (p : TempsAgree live g a b)
-      (gains : Gains g b b' d v) where
-    -- nothing else is read where this is assigned_first
+  module _ (are_sources : AreSources table source used holds_word) (live following : TempSet) (g a b b' : Temps)
+      (d : ℕ) (v : Value) (p : TempsAgree live g a b) (gains : Gains g b b' d v) where
+    -- nothing else is read where this is assigned
     not_source : {B : Type 0} (t : ℕ) (w : Value) → (t == d) ≡ false → g t ≡ Some w → source t ≡ d → B
     not_source {B} t w n e is = by (are_sources t) where
-      by : ((source t ≡ t) ⊎ Moved t) → B
+      by : ((source t ≡ t) ⊎ Moved table source used holds_word t) → B
       by (inl same) = not_same t d n (sym same ∙ is)
       by (inr moved) = let none : ◌≡◌ {A = Option Value} None (Some w) =
           sym (gains.first (subst (λ x. is_once (table x) ≡ true) is moved.once)) ∙ (ap g (sym is) ∙ p.sourced t w e) in
@@ -114,7 +126,7 @@ module _ (table : ℕ → Assigned) (source : ℕ → ℕ) (used holds_word : �
           p.kept t w before u));
       sourced = gained_source;
       constant = λ t c w k e. decide t d
-          (λ is. sym (value_is d t v w g is e) ∙ gains.constant c (sym (ap table is) ∙ k))
+          (λ is. sym (value_is d t v w g is e) ∙ gains.constant c (sym (ap constants is) ∙ k))
           (λ n. p.constant t c w k (sym (with_other d v g t n) ∙ e));
       words = λ t w k e. decide t d
           (λ is. ap is_word (sym (value_is d t v w g is e)) ∙ gains.word (sym (ap holds_word is) ∙ k))

@@ -21,9 +21,10 @@ use Rattle.sc_opt.specs.Pass.{operator_code, pass, pass_step, present}
 use Rattle.sc_opt.proofs.Joined.{AtMost, below_first, below_rest, decide, not_same, other_way}
 use Rattle.sc_opt.proofs.Agreement.{AreSources, Moved}
 use Rattle.sc_opt.specs.declared.facts.Assigned.{Assigned}
-use Rattle.sc_opt.specs.declared.facts.Assigned.TheVariants.{ByConstant, ByCopy, Nowhere, Otherwise, Several}
+use Rattle.sc_opt.specs.declared.facts.Assigned.TheVariants.{ByConstant, ByCopy, ByOperator, Nowhere, Otherwise}
+use Rattle.sc_opt.specs.declared.facts.Assigned.TheVariants.{Several}
 
-module _ (table : ℕ → Assigned) (source : ℕ → ℕ) (used holds_word : ℕ → Bool)
+module _ (table : ℕ → Assigned) (constants : ℕ → Option Constant) (source : ℕ → ℕ) (used holds_word : ℕ → Bool)
     (are_sources : AreSources table source used holds_word) (x : ℕ)
     (is_used : used x ≡ true) where
   source_plain : (d : ℕ) (y : Assigned) → AtMost y (table d) → (y ≡ Nowhere → ⊥) → ((u : ℕ) → y ≡ ByCopy u → ⊥) →
@@ -58,7 +59,7 @@ module _ (table : ℕ → Assigned) (source : ℕ → ℕ) (used holds_word : �
   fresh_of (Some stmt) ahead = (reading x stmt).fresh ahead
 
   abbrev passes : TacStmt → Option TacStmt
-  passes = pass table source used holds_word
+  passes = pass constants source used holds_word
 
   abbrev Known : TacStmt → Type 0
   Known stmt = (t : ℕ) → AtMost (assigned t stmt) (table t)
@@ -154,7 +155,7 @@ module _ (table : ℕ → Assigned) (source : ℕ → ℕ) (used holds_word : �
   abbrev plain_at : List ℕ → Option ℕ → ℕ → Ahead → Bool
   plain_at reads dest t ahead = is_one t reads || (not (is_one t (one_or_none dest)) && ahead.following)
 
-  -- the statement stays: it reads at the copy_sources, and assigns what it assigned_first
+  -- the statement stays: it reads at the sources, and assigns what it assigned
   stays_live : (reads : List ℕ) (dest : Option ℕ) → ((d : ℕ) → dest ≡ Some d → source d ≡ d) →
       (aheads : ℕ → Ahead) (ahead : Ahead) → Over aheads ahead → plain_at (map source reads) dest x ahead ≡ true →
       Some_at (λ t. plain_at reads dest t (aheads t))
@@ -180,7 +181,7 @@ module _ (table : ℕ → Assigned) (source : ℕ → ℕ) (used holds_word : �
           holds = kept dest home k (and_first (not (is_one x (one_or_none dest))) _ on);
         }
 
-  -- it went, and nobody reads what it assigned_first
+  -- it went, and nobody reads what it assigned
   goes_live : (reads : List ℕ) (d : ℕ) → source d ≡ d → used d ≡ false → (aheads : ℕ → Ahead) (ahead : Ahead) →
       Over aheads ahead → ahead.following ≡ true → Some_at (λ t. plain_at reads (Some d) t (aheads t))
   goes_live reads d home unread aheads ahead over h = let k = over.following h in
@@ -266,14 +267,14 @@ module _ (table : ℕ → Assigned) (source : ℕ → ℕ) (used holds_word : �
   abbrev LiftedAt : TacStmt-F TacStmt → Type 0
   LiftedAt k = ((t : ℕ) → AtMost (assigned_at k t) (table t)) →
       Lifts (assigned_at k) (λ t. (reading_at k t).first) (λ t. (reading_at k t).fresh)
-      (pass_step table source used holds_word (map-TacStmt _ _ passes k))
+      (pass_step constants source used holds_word (map-TacStmt _ _ passes k))
 
   otherwise_home : (d : ℕ) → AtMost (if d == d || false then Otherwise else Nowhere) (table d) → source d ≡ d
   otherwise_home d below = source_plain d Otherwise
       (subst (λ y. AtMost y (table d)) (ap (λ b. if b || false then Otherwise else Nowhere)
       (eq-eqb d d refl)) below) some_otherwise no_copy
 
-  -- a statement that stays, with its reads at the copy_sources
+  -- a statement that stays, with its reads at the sources
   plain_stays : (known : ℕ → Assigned) (reads : List ℕ) (dest : Option ℕ) (k : TacStmt-F TacStmt) →
       ((d : ℕ) → dest ≡ Some d → source d ≡ d) →
       ((ahead : Ahead) → (reading x (roll-TacStmt k)).first ahead ≡ plain_at (map source reads) dest x ahead) →
@@ -416,9 +417,11 @@ module _ (table : ℕ → Assigned) (source : ℕ → ℕ) (used holds_word : �
         (λ e. e)
 
   op_lifts : (d : ℕ) (o : TacOp) (left : ℕ) (right : Option ℕ) → LiftedAt (tac.Op d o left right)
-  op_lifts d o left right below = by (folded table o left right) where
+  op_lifts d o left right below = by (folded constants o left right) where
     home : source d ≡ d
-    home = otherwise_home d (below d)
+    home = source_plain d (ByOperator o left right) (subst (λ y. AtMost y (table d))
+        (ap (λ b. if b then ByOperator o left right else Nowhere) (eq-eqb d d refl)) (below d)) (λ h. absurd (cc h))
+        (λ u h. absurd (cc h))
 
     neither : (u t : Bool) → (u || t) ≡ false → u ≡ false
     neither true t h = h
@@ -525,8 +528,8 @@ module _ (table : ℕ → Assigned) (source : ℕ → ℕ) (used holds_word : �
   stmt_lifted = stmt_induction Lifted (λ k i below.
       let lifts = layer_lifts k i (λ t. subst (λ y. AtMost y (table t)) (fold-roll-TacStmt Assigned
       (assigned_step t) k) (below t)) in
-      let pass_is : passes (roll-TacStmt k) ≡ pass_step table source used holds_word (map-TacStmt _ _ passes k) =
-      fold-roll-TacStmt (Option TacStmt) (pass_step table source used holds_word) k in
+      let pass_is : passes (roll-TacStmt k) ≡ pass_step constants source used holds_word (map-TacStmt _ _ passes k) =
+      fold-roll-TacStmt (Option TacStmt) (pass_step constants source used holds_word) k in
       record {
         live = λ aheads ahead over h. some_with (λ t. (reading_at k t).first (aheads t))
             (λ t. (reading t (roll-TacStmt k)).first (aheads t))
@@ -536,7 +539,7 @@ module _ (table : ℕ → Assigned) (source : ℕ → ℕ) (used holds_word : �
             (λ t. sym (ap (λ r. r.fresh (aheads t)) (fold-roll-TacStmt Reading (reading_step t) k)) ∙ h t);
       })
 
-  -- a used temporary is assigned_first before it is read in the code that the pass gives
+  -- a used temporary is assigned before it is read in the code that the pass gives
   pub stays_assigned : (body : List TacStmt) → ((t : ℕ) → AtMost (all_joined (map (assigned t) body)) (table t)) →
       ((t : ℕ) → is_assigned_first t body ≡ true) → is_assigned_first x (present (map passes body)) ≡ true
   stays_assigned body below assigned_first = and_from (not (row_read body nothing_ahead)) _

@@ -14,7 +14,7 @@ use Rattle.sc_tac.specs.declared.stmt.TacStmt.TheOpen as tac
 use Rattle.sc_opt.specs.Pass.{assigned, assigned_in, assigned_step, joined}
 use Rattle.sc_opt.proofs.Unread.{reads_not, unread_first}
 use Rattle.sc_opt.specs.declared.facts.Assigned.{Assigned}
-use Rattle.sc_opt.specs.declared.facts.Assigned.TheVariants.{ByConstant, ByCopy, Nowhere, Otherwise}
+use Rattle.sc_opt.specs.declared.facts.Assigned.TheVariants.{ByConstant, ByCopy, ByOperator, Nowhere, Otherwise}
 
 module _ (temps t : ℕ) (out : temps ≤ t) where
   abbrev own : List ℕ → Bool
@@ -95,7 +95,8 @@ module _ (temps t : ℕ) (out : temps ≤ t) where
       Absent (with_parts (reads_not t) (map-TacStmt _ _ quiet k)) (assigned_step t (map-TacStmt _ _ (assigned t) k))
   layer_gone (tac.Const d value) i h = only_here d (ByConstant value) (plain_gone (Some d) [] h (ByConstant value))
   layer_gone (tac.Copy d from) i h = only_here d (ByCopy from) (plain_gone (Some d) (from ∷ []) h (ByCopy from))
-  layer_gone (tac.Op d o left right) i h = plain_gone (Some d) (left ∷ one_or_none right) h Otherwise
+  layer_gone (tac.Op d o left right) i h = only_here d (ByOperator o left right)
+      (plain_gone (Some d) (left ∷ one_or_none right) h (ByOperator o left right))
   layer_gone (tac.ObjectPlace d object) i h = plain_gone (Some d) [] h Otherwise
   layer_gone (tac.GlobalPlace d global) i h = plain_gone (Some d) [] h Otherwise
   layer_gone (tac.Load d place pointer) i h = plain_gone (Some d) (place ∷ []) h Otherwise

@@ -5,7 +5,8 @@ use Rattle.sc_opt.specs.Pass.{copies_one, is_once, source_by, copy_source, copy_
 use Rattle.sc_opt.proofs.Joined.{not_same}
 use Rattle.sc_opt.proofs.Agreement.{AreSources, Moved}
 use Rattle.sc_opt.specs.declared.facts.Assigned.{Assigned}
-use Rattle.sc_opt.specs.declared.facts.Assigned.TheVariants.{ByConstant, ByCopy, Nowhere, Otherwise, Several}
+use Rattle.sc_opt.specs.declared.facts.Assigned.TheVariants.{ByConstant, ByCopy, ByOperator, Nowhere, Otherwise}
+use Rattle.sc_opt.specs.declared.facts.Assigned.TheVariants.{Several}
 
 module _ (table : ℕ → Assigned) (used holds_word : ℕ → Bool) where
   abbrev IsSource : ℕ → Type 0
@@ -32,7 +33,7 @@ module _ (table : ℕ → Assigned) (used holds_word : ℕ → Bool) where
         (table n) else copy_sources table n t) is
         ∙ less (strict n t h (not_same {B = ⊥} t n is))
 
-  -- where a temporary isn't a copy of one that is assigned_first in one place
+  -- where a temporary isn't a copy of one that is assigned in one place
   pub at_home : (t : ℕ) → copies_one table (table t) ≡ false → copy_source table t ≡ t
   at_home t other = here t ∙ by (table t) other where
     by : (x : Assigned) → copies_one table x ≡ false → source_by table (copy_sources table t) t x ≡ t
@@ -41,6 +42,7 @@ module _ (table : ℕ → Assigned) (used holds_word : ℕ → Bool) where
     by (ByCopy u) h = ap (λ b. if b then (if nat_lt u t then copy_sources table t u else (if copies_one table
         (table u) then t else u))
         else t) h
+    by (ByOperator o left right) h = refl
     by Otherwise h = refl
     by Several h = refl
 
@@ -91,6 +93,7 @@ module _ (table : ℕ → Assigned) (used holds_word : ℕ → Bool) where
       by : (b : Bool) → is_once (table u) ≡ b → IsSource t
       by true once = copied u is once
       by false n = inl (at_home t (ap (copies_one table) is ∙ n))
+    one_more (ByOperator o left right) is = inl (at_home t (ap (copies_one table) is))
     one_more Otherwise is = inl (at_home t (ap (copies_one table) is))
     one_more Several is = inl (at_home t (ap (copies_one table) is))
 

@@ -13,7 +13,6 @@ use Rattle.sc_tac.specs.declared.stmt.TacStmt.{roll-TacStmt}
 use Rattle.sc_tac.specs.declared.stmt.TacStmt.TheOpen as tac
 use Rattle.sc_opt.specs.Optimised.{statement_step, statements}
 use Rattle.sc_opt.specs.Pass.{folded, keep_if, operator_code, pass, pass_step, present}
-use Rattle.sc_opt.specs.declared.facts.Assigned.{Assigned}
 
 -- a statement without others inside
 abbrev is_leaf : TacStmt-F ℕ → Bool
@@ -69,10 +68,10 @@ count_statements = record {
   cycle = λ a b c x y z h k l. three_parts (total x) (total a) (total y) (total b) (total z) (total c) h k l;
 }
 
-module _ (table : ℕ → Assigned) (source : ℕ → ℕ) (used holds_word : ℕ → Bool) (step : TacStmt-F ℕ → ℕ)
+module _ (constants : ℕ → Option Constant) (source : ℕ → ℕ) (used holds_word : ℕ → Bool) (step : TacStmt-F ℕ → ℕ)
     (counts : Counts step) where
   abbrev passes : TacStmt → Option TacStmt
-  passes = pass table source used holds_word
+  passes = pass constants source used holds_word
 
   abbrev number : TacStmt → ℕ
   number = fold-TacStmt ℕ step
@@ -126,10 +125,11 @@ module _ (table : ℕ → Assigned) (source : ℕ → ℕ) (used holds_word : �
   along m n p e h = subst (λ x. x ≤ p) (sym e) h
 
   layer_fewer : (k : TacStmt-F TacStmt) → Inside Fewer k →
-      number_left (pass_step table source used holds_word (map-TacStmt _ _ passes k)) ≤ step (map-TacStmt _ _ number k)
+      number_left (pass_step constants source used holds_word (map-TacStmt _ _ passes k)) ≤ step
+      (map-TacStmt _ _ number k)
   layer_fewer (tac.Const d value) i = if_kept (used d) (tac.Const d value) (tac.Const d value) refl refl
   layer_fewer (tac.Copy d from) i = if_kept _ (tac.Copy d (source from)) (tac.Copy d from) refl refl
-  layer_fewer (tac.Op d o left right) i = op_fewer d o left right (folded table o left right)
+  layer_fewer (tac.Op d o left right) i = op_fewer d o left right (folded constants o left right)
   layer_fewer (tac.ObjectPlace d object) i =
       if_kept (used d) (tac.ObjectPlace d object) (tac.ObjectPlace d object) refl refl
   layer_fewer (tac.GlobalPlace d global) i =
@@ -163,14 +163,14 @@ module _ (table : ℕ → Assigned) (source : ℕ → ℕ) (used holds_word : �
   stmt_fewer : (stmt : TacStmt) → Fewer stmt
   stmt_fewer = stmt_induction Fewer (λ k i. subst (λ n. number_left (passes (roll-TacStmt k)) ≤ n) (sym (rolled k))
       (subst (λ o. number_left o ≤ step (map-TacStmt _ _ number k))
-      (sym (fold-roll-TacStmt (Option TacStmt) (pass_step table source used holds_word) k)) (layer_fewer k i)))
+      (sym (fold-roll-TacStmt (Option TacStmt) (pass_step constants source used holds_word) k)) (layer_fewer k i)))
 
   none_added : (body : List TacStmt) → row_number (present (map passes body)) ≤ row_number body
   none_added body = row_fewer body (everywhere_in Fewer stmt_fewer body)
 
-module _ (table : ℕ → Assigned) (source : ℕ → ℕ) (used holds_word : ℕ → Bool) (body : List TacStmt) where
-  pub no_more_branches : branches (present (map (pass table source used holds_word) body)) ≤ branches body
-  no_more_branches = none_added table source used holds_word branch_step count_branches body
+module _ (constants : ℕ → Option Constant) (source : ℕ → ℕ) (used holds_word : ℕ → Bool) (body : List TacStmt) where
+  pub no_more_branches : branches (present (map (pass constants source used holds_word) body)) ≤ branches body
+  no_more_branches = none_added constants source used holds_word branch_step count_branches body
 
-  pub no_more_statements : statements (present (map (pass table source used holds_word) body)) ≤ statements body
-  no_more_statements = none_added table source used holds_word statement_step count_statements body
+  pub no_more_statements : statements (present (map (pass constants source used holds_word) body)) ≤ statements body
+  no_more_statements = none_added constants source used holds_word statement_step count_statements body

@@ -18,14 +18,13 @@ use Rattle.sc_tac.specs.declared.stmt.TacStmt.{TacStmt, TacStmt-F, fold-TacStmt,
 use Rattle.sc_tac.specs.declared.stmt.TacStmt.{roll-TacStmt}
 use Rattle.sc_tac.specs.declared.stmt.TacStmt.TheOpen as tac
 use Rattle.sc_opt.specs.Pass.{folded, is_kept, is_none, is_total, keep_if, operator_code, pass, pass_step, present}
-use Rattle.sc_opt.specs.declared.facts.Assigned.{Assigned}
 
-module _ (table : ℕ → Assigned) (source : ℕ → ℕ) (used holds_word : ℕ → Bool) where
+module _ (constants : ℕ → Option Constant) (source : ℕ → ℕ) (used holds_word : ℕ → Bool) where
   abbrev left_test : TacStmt → Bool
-  left_test = fold-TacStmt Bool (with_parts (is_kept table source used holds_word))
+  left_test = fold-TacStmt Bool (with_parts (is_kept constants source used holds_word))
 
   abbrev passes : TacStmt → Option TacStmt
-  passes = pass table source used holds_word
+  passes = pass constants source used holds_word
 
   abbrev left_weight : Option TacStmt → ℕ
   left_weight None = 0
@@ -124,16 +123,16 @@ module _ (table : ℕ → Assigned) (source : ℕ → ℕ) (used holds_word : �
   args_same args = ap call_weight (length-map args source)
 
   layer_falls : (k : TacStmt-F TacStmt) → Inside Fallen k →
-      Falls (left_weight (pass_step table source used holds_word (map-TacStmt _ _ passes k)))
+      Falls (left_weight (pass_step constants source used holds_word (map-TacStmt _ _ passes k)))
       (weight_step (map-TacStmt _ _ stmt_weight k))
-      (with_parts (is_kept table source used holds_word) (map-TacStmt _ _ left_test k))
+      (with_parts (is_kept constants source used holds_word) (map-TacStmt _ _ left_test k))
   layer_falls (tac.Const d value) i = if_kept (used d) (tac.Const d value) 5 5 _ (rolled (tac.Const d value))
       (omega arith)
       (omega arith) (λ u e. true_left (used d) u)
   layer_falls (tac.Copy d from) i = if_kept (not (source d == source from) && used d) (tac.Copy d (source from)) 6 6 _
       (rolled (tac.Copy d (source from))) (omega arith) (omega arith)
       (λ u e. true_left (not (source d == source from) && used d) u)
-  layer_falls (tac.Op d o left right) i = op_falls d o left right (folded table o left right)
+  layer_falls (tac.Op d o left right) i = op_falls d o left right (folded constants o left right)
   layer_falls (tac.ObjectPlace d object) i = if_kept (used d) (tac.ObjectPlace d object) 6 6 _
       (rolled (tac.ObjectPlace d object)) (omega arith) (omega arith) (λ u e. true_left (used d) u)
   layer_falls (tac.GlobalPlace d global) i = if_kept (used d) (tac.GlobalPlace d global) 6 6 _
@@ -197,15 +196,15 @@ module _ (table : ℕ → Assigned) (source : ℕ → ℕ) (used holds_word : �
   stmt_falls = stmt_induction Fallen (λ k i.
       subst (λ n. Falls (left_weight (passes (roll-TacStmt k))) n (left_test (roll-TacStmt k))) (sym (rolled k))
       (subst (λ b. Falls (left_weight (passes (roll-TacStmt k))) (weight_step (map-TacStmt _ _ stmt_weight k)) b)
-      (sym (fold-roll-TacStmt Bool (with_parts (is_kept table source used holds_word)) k))
+      (sym (fold-roll-TacStmt Bool (with_parts (is_kept constants source used holds_word)) k))
       (subst (λ o. Falls (left_weight o) (weight_step (map-TacStmt _ _ stmt_weight k))
-      (with_parts (is_kept table source used holds_word) (map-TacStmt _ _ left_test k)))
-      (sym (fold-roll-TacStmt (Option TacStmt) (pass_step table source used holds_word) k)) (layer_falls k i))))
+      (with_parts (is_kept constants source used holds_word) (map-TacStmt _ _ left_test k)))
+      (sym (fold-roll-TacStmt (Option TacStmt) (pass_step constants source used holds_word) k)) (layer_falls k i))))
 
   pub no_heavier : (body : List TacStmt) → weight (present (map passes body)) ≤ weight body
   no_heavier body = (row_falls body (everywhere_in Fallen stmt_falls body)).no_more
 
   -- a pass that changes no weight leaves each statement
   pub all_left : (body : List TacStmt) → weight (present (map passes body)) ≡ weight body →
-      everywhere (is_kept table source used holds_word) body ≡ true
+      everywhere (is_kept constants source used holds_word) body ≡ true
   all_left body e = (row_falls body (everywhere_in Fallen stmt_falls body)).same e

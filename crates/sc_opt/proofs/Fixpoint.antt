@@ -9,19 +9,20 @@ use Rattle.sc_tac.specs.Prelude.{all_true, everywhere, is_one, one_or_none, some
 use Rattle.sc_tac.specs.declared.stmt.Constant.{Constant}
 use Rattle.sc_tac.specs.declared.stmt.TacStmt.{TacStmt, TacStmt-F, fold-TacStmt, fold-roll-TacStmt, map-TacStmt}
 use Rattle.sc_tac.specs.declared.stmt.TacStmt.TheOpen as tac
-use Rattle.sc_opt.specs.Pass.{copies_one, folded, assigned, assigned_in, assigned_step}
+use Rattle.sc_opt.specs.Pass.{constant_of, copies_one, folded, assigned, assigned_in, assigned_step}
 use Rattle.sc_opt.specs.Pass.{is_lean, is_kept, is_none, is_once, is_read, is_total, always_word, lean, reads_temp}
-use Rattle.sc_opt.specs.Pass.{one_pass}
+use Rattle.sc_opt.specs.Pass.{known_constant, one_pass}
 use Rattle.sc_opt.specs.Pass.{is_read_by, reads_some, reads_unless, reads_within, copy_source, table_of}
 use Rattle.sc_opt.proofs.Joined.{AtMost, below_first, below_rest}
 use Rattle.sc_opt.proofs.Falling.{all_left}
 use Rattle.sc_opt.proofs.Lean.{at_home, no_copies}
+use Rattle.sc_opt.proofs.AllKnown.{constant_known, none_folded}
 use Rattle.sc_opt.proofs.Copies.{all_sourced, lower}
 use Rattle.sc_opt.specs.declared.facts.Assigned.{Assigned}
 use Rattle.sc_opt.specs.declared.facts.Assigned.TheVariants.{ByCopy, Nowhere}
 
 -- WHAT IS USED IS READ
-module _ (table : ℕ → Assigned) (source : ℕ → ℕ) (home : (t : ℕ) → source t ≡ t) (x : ℕ) where
+module _ (constants : ℕ → Option Constant) (source : ℕ → ℕ) (home : (t : ℕ) → source t ≡ t) (x : ℕ) where
   some_read : (ts : List ℕ) → reads_some source x ts ≡ true → is_one x ts ≡ true
   some_read [] h = h
   some_read (t ∷ ts) h = by (or_cases (source t == x) (reads_some source x ts) h) (some_read ts) where
@@ -35,7 +36,7 @@ module _ (table : ℕ → Assigned) (source : ℕ → ℕ) (home : (t : ℕ) →
   unless_read None ts h = some_read ts h
 
   abbrev now : TacStmt → Bool
-  now = fold-TacStmt Bool (reads_within table source x)
+  now = fold-TacStmt Bool (reads_within constants source x)
 
   abbrev names : TacStmt → Bool
   names = fold-TacStmt Bool (reads_temp x)
@@ -66,11 +67,11 @@ module _ (table : ℕ → Assigned) (source : ℕ → ℕ) (home : (t : ℕ) →
       ∙ and_rest (not (source d == source from)) _ h)
 
   layer_named : (k : TacStmt-F TacStmt) → Inside Named k →
-      reads_within table source x (map-TacStmt _ _ now k) ≡ true → reads_temp x (map-TacStmt _ _ names k) ≡ true
+      reads_within constants source x (map-TacStmt _ _ now k) ≡ true → reads_temp x (map-TacStmt _ _ names k) ≡ true
   layer_named (tac.Const dest value) i h = h
   layer_named (tac.Copy dest from) i h = alone _ _ (copy_named dest from) h
   layer_named (tac.Op dest o left right) i h =
-      alone _ _ (unless_read (folded table o left right) (left ∷ one_or_none right)) h
+      alone _ _ (unless_read (folded constants o left right) (left ∷ one_or_none right)) h
   layer_named (tac.ObjectPlace dest object) i h = h
   layer_named (tac.GlobalPlace dest global) i h = h
   layer_named (tac.Load dest place pointer) i h = alone _ _ (some_read (place ∷ [])) h
@@ -91,16 +92,17 @@ module _ (table : ℕ → Assigned) (source : ℕ → ℕ) (home : (t : ℕ) →
 
   stmt_named : (stmt : TacStmt) → Named stmt
   stmt_named = stmt_induction Named (λ k i h. fold-roll-TacStmt Bool (reads_temp x) k
-      ∙ layer_named k i (sym (fold-roll-TacStmt Bool (reads_within table source x) k) ∙ h))
+      ∙ layer_named k i (sym (fold-roll-TacStmt Bool (reads_within constants source x) k) ∙ h))
 
-  pub used_is_read : (body : List TacStmt) → is_read table source body x ≡ true → is_read_by body x ≡ true
+  pub used_is_read : (body : List TacStmt) → is_read constants source body x ≡ true → is_read_by body x ≡ true
   used_is_read body h = row_named body (everywhere_in Named stmt_named body) h
 
 -- WHAT IS LEFT IS LEAN
-module _ (table : ℕ → Assigned) (source : ℕ → ℕ) (used reads holds_word : ℕ → Bool)
+module _ (table : ℕ → Assigned) (constants : ℕ → Option Constant) (source : ℕ → ℕ) (used reads holds_word : ℕ → Bool)
+    (finds : (t : ℕ) (c : Constant) → constant_of (table t) ≡ Some c → constants t ≡ Some c)
     (is_used : (x : ℕ) → used x ≡ true → reads x ≡ true) (no_copy : (t : ℕ) → copies_one table (table t) ≡ false) where
   abbrev left : TacStmt → Bool
-  left = fold-TacStmt Bool (with_parts (is_kept table source used holds_word))
+  left = fold-TacStmt Bool (with_parts (is_kept constants source used holds_word))
 
   abbrev leans : TacStmt → Bool
   leans = fold-TacStmt Bool (with_parts (is_lean table reads holds_word))
@@ -145,14 +147,15 @@ module _ (table : ℕ → Assigned) (source : ℕ → ℕ) (used reads holds_wor
 
   layer_lean : (k : TacStmt-F TacStmt) → Inside Leaner k →
       ((t : ℕ) → AtMost (assigned_step t (map-TacStmt _ _ (assigned t) k)) (table t)) →
-      with_parts (is_kept table source used holds_word) (map-TacStmt _ _ left k) ≡ true →
+      with_parts (is_kept constants source used holds_word) (map-TacStmt _ _ left k) ≡ true →
       with_parts (is_lean table reads holds_word) (map-TacStmt _ _ leans k) ≡ true
   layer_lean (tac.Const d value) i below h = with_true _ _ (is_used d) h
   layer_lean (tac.Copy d from) i below h = with_true _ _ (copy_lean d from (below d)) h
   layer_lean (tac.Op d o one two) i below h = with_true _ _ (λ e. and_from _ _
-      (and_first (is_none (folded table o one two)) _ e)
+      (none_folded (λ t. constant_of (table t)) constants finds o one two
+      (and_first (is_none (folded constants o one two)) _ e))
       (or_used (used d) (reads d) (not (is_total holds_word o one two)) (is_used d)
-      (and_rest (is_none (folded table o one two)) _ e))) h
+      (and_rest (is_none (folded constants o one two)) _ e))) h
   layer_lean (tac.ObjectPlace d object) i below h = with_true _ _ (is_used d) h
   layer_lean (tac.GlobalPlace d global) i below h = with_true _ _ (is_used d) h
   layer_lean (tac.Load d place pointer) i below h = refl
@@ -194,10 +197,10 @@ module _ (table : ℕ → Assigned) (source : ℕ → ℕ) (used reads holds_wor
   stmt_lean = stmt_induction Leaner (λ k i below h. fold-roll-TacStmt Bool (with_parts
       (is_lean table reads holds_word)) k
       ∙ layer_lean k i (λ t. subst (λ y. AtMost y (table t)) (fold-roll-TacStmt Assigned (assigned_step t) k) (below t))
-      (sym (fold-roll-TacStmt Bool (with_parts (is_kept table source used holds_word)) k) ∙ h))
+      (sym (fold-roll-TacStmt Bool (with_parts (is_kept constants source used holds_word)) k) ∙ h))
 
   pub left_is_lean : (body : List TacStmt) → ((t : ℕ) → AtMost (assigned_in t body) (table t)) →
-      everywhere (is_kept table source used holds_word) body ≡ true → everywhere
+      everywhere (is_kept constants source used holds_word) body ≡ true → everywhere
       (is_lean table reads holds_word) body ≡ true
   left_is_lean body below h = row_lean body (everywhere_in Leaner stmt_lean body) below h
 
@@ -206,12 +209,15 @@ pub is_lean_then : (body : List TacStmt) (bound : ℕ) → ((t : ℕ) → bound 
     weight (one_pass body) ≡ weight body → lean body ≡ true
 is_lean_then body bound above same =
     let table = table_of body in
+    let constants = known_constant table in
     let source = copy_source table in
-    let used = is_read table source body in
+    let used = is_read constants source body in
     let holds_word = always_word body in
-    let left = all_left table source used holds_word body same in
+    let left = all_left constants source used holds_word body same in
     let sourced = all_sourced table used holds_word in
-    left_is_lean table source used (is_read_by body) holds_word
-    (λ x h. used_is_read table source (at_home table used holds_word sourced body (λ t. refl) left) x body h)
-    (no_copies table used holds_word sourced body (λ t. refl) left bound above (lower table used holds_word)) body
+    left_is_lean table constants source used (is_read_by body) holds_word (constant_known table)
+    (λ x h. used_is_read constants source (at_home table constants used holds_word sourced body (λ t. refl) left) x
+    body h)
+    (no_copies table constants used holds_word sourced body (λ t. refl) left bound above (lower table used holds_word))
+    body
     (λ t. inr (inl refl)) left

@@ -10,7 +10,7 @@ use Rattle.sc_tac.specs.declared.stmt.TacStmt.{TacStmt, TacStmt-F, fold-TacStmt,
 use Rattle.sc_tac.specs.declared.stmt.TacStmt.TheOpen as tac
 use Rattle.sc_opt.specs.Pass.{assigned, assigned_in, assigned_step, joined}
 use Rattle.sc_opt.specs.declared.facts.Assigned.{Assigned}
-use Rattle.sc_opt.specs.declared.facts.Assigned.TheVariants.{ByConstant, ByCopy, Nowhere, Otherwise}
+use Rattle.sc_opt.specs.declared.facts.Assigned.TheVariants.{ByConstant, ByCopy, ByOperator, Nowhere, Otherwise}
 
 module _ (test : TacStmt-F Bool → Bool) (t : ℕ) where
   -- of the one statement that assigns it so
@@ -23,6 +23,7 @@ module _ (test : TacStmt-F Bool → Bool) (t : ℕ) where
   both_found Nowhere y f g = g
   both_found (ByConstant c) Nowhere f g = f
   both_found (ByCopy u) Nowhere f g = f
+  both_found (ByOperator o left right) Nowhere f g = tt
   both_found Otherwise Nowhere f g = tt
   both_found x y f g = tt
 
@@ -37,6 +38,10 @@ module _ (test : TacStmt-F Bool → Bool) (t : ℕ) where
   row_finds [] each h = tt
   row_finds (s ∷ rest) each h = both_found (assigned t s) (assigned_in t rest) (each.0 (and_first (holds s) _ h))
       (row_finds rest each.1 (and_rest (holds s) _ h))
+
+  operator_found : (x : Assigned) → Found x → (b : Bool) → Found (if b then x else Nowhere)
+  operator_found x f true = f
+  operator_found x f false = tt
 
   otherwise_found : (b : Bool) → Found (if b then Otherwise else Nowhere)
   otherwise_found true = tt
@@ -57,7 +62,7 @@ module _ (test : TacStmt-F Bool → Bool) (t : ℕ) where
   layer_finds (tac.Const d value) i h = constant_found d value (and_first (test (tac.Const d value)) true h)
       (d == t) refl
   layer_finds (tac.Copy d from) i h = copy_found d from (and_first (test (tac.Copy d from)) true h) (d == t) refl
-  layer_finds (tac.Op d o left right) i h = otherwise_found (d == t || false)
+  layer_finds (tac.Op d o left right) i h = operator_found (ByOperator o left right) tt (d == t)
   layer_finds (tac.ObjectPlace d object) i h = otherwise_found (d == t || false)
   layer_finds (tac.GlobalPlace d global) i h = otherwise_found (d == t || false)
   layer_finds (tac.Load d place pointer) i h = otherwise_found (d == t || false)

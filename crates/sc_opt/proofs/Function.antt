@@ -11,24 +11,27 @@ use Rattle.sc_tac.specs.Flow.{is_assigned_first}
 use Rattle.sc_tac.specs.Prelude.{Temps, code_does, code_function, everywhere, nothing_ahead, nothing_live, no_temps}
 use Rattle.sc_tac.specs.Prelude.{reading, row_first}
 use Rattle.sc_tac.specs.declared.function.TacFnTree.{TacFnTree}
-use Rattle.sc_opt.specs.Pass.{is_read, always_word, one_pass, copy_source, table_of, takes_promised}
+use Rattle.sc_opt.specs.Pass.{always_word, copy_source, is_read, known_constant, one_pass, table_of, takes_promised}
 use Rattle.sc_opt.specs.Optimised.{changed_function}
 use Rattle.sc_opt.proofs.Kept.{code_kept}
 use Rattle.sc_opt.proofs.Agreement.{begun}
 use Rattle.sc_opt.proofs.Related.{Related}
+use Rattle.sc_opt.proofs.AllKnown.{all_known}
 use Rattle.sc_opt.proofs.Copies.{all_sourced}
 use Rattle.sc_opt.proofs.UsedReads.{all_uses}
 use Rattle.sc_opt.proofs.Values.{Fits}
+use Rattle.sc_tac.specs.declared.stmt.Constant.{Constant}
 use Rattle.sc_opt.specs.declared.facts.Assigned.{Assigned}
 
 -- what a call sees of two pieces that follow
-module _ (table : ℕ → Assigned) (source : ℕ → ℕ) (used holds_word : ℕ → Bool) (result is_main : Bool)
+module _ (table : ℕ → Assigned) (constants : ℕ → Option Constant) (source : ℕ → ℕ) (used holds_word : ℕ → Bool)
+    (result is_main : Bool)
     (here : Here) where
   abbrev closing : Left Temps → State → Piece (Option Value)
   closing left s = closed left.exit result is_main 0 here s
 
   closes : (g : Temps) (assignments : ℕ → Assigned) (o p : Piece (Left Temps)) →
-      Related table source used holds_word nothing_live g assignments o p → PiecesAgree (and_then o closing)
+      Related table constants source used holds_word nothing_live g assignments o p → PiecesAgree (and_then o closing)
       (and_then p closing)
   closes g assignments (Reached l s) p m = record {
     same = sym (ap (λ x. piece_without_line
@@ -51,21 +54,23 @@ module _ (arith : Arith) (fits : Fits arith) (f : TacFnTree) (gives : CallTarget
       (changed_function one_pass f)).does D here s)
   function_kept here C D agree giving s =
       let table = table_of f.body in
+      let constants = known_constant table in
       let source = copy_source table in
-      let used = is_read table source f.body in
+      let used = is_read constants source f.body in
       let holds_word = always_word f.body in
-      closes table source used holds_word f.result _ here no_temps (λ t. table t)
+      closes table constants source used holds_word f.result _ here no_temps (λ t. table t)
       (code_does arith here C f.body no_temps s)
       (code_does arith here D (one_pass f.body) no_temps s)
-      (code_kept table source used holds_word (all_sourced table used holds_word) arith fits here C D gives
+      (code_kept table constants source used holds_word (all_sourced table used holds_word)
+      (all_known table source used holds_word) arith fits here C D gives
       (agree here.comp) giving f.body
       nothing_live no_temps no_temps no_temps s (record {
         below = λ t. inr (inl refl);
         words = λ t w. w;
-        uses = all_uses table source used holds_word f.body (λ x r. r);
+        uses = all_uses constants source used holds_word f.body (λ x r. r);
         takes = takes;
         fresh = λ t. and_rest (not (row_first (map (reading t) f.body) nothing_ahead)) _ (assigned_first t);
-      }) (begun table source used holds_word _ no_temps no_temps (λ t on.
+      }) (begun table constants source used holds_word _ no_temps no_temps (λ t on.
       not_so (row_first (map (reading t) f.body) nothing_ahead)
       (and_first (not (row_first (map (reading t) f.body) nothing_ahead)) _ (assigned_first t)) on))
       (λ t once. inr refl)).related

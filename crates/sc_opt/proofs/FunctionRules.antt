@@ -14,7 +14,7 @@ use Rattle.sc_tac.specs.declared.function.TacFnTree.{TacFnTree}
 use Rattle.sc_tac.specs.declared.stmt.Constant.{Constant}
 use Rattle.sc_tac.specs.declared.stmt.TacStmt.{TacStmt, TacStmt-F}
 use Rattle.sc_opt.specs.Optimised.{changed_function}
-use Rattle.sc_opt.specs.Pass.{always_word, copy_source, is_read, one_pass, table_of}
+use Rattle.sc_opt.specs.Pass.{always_word, copy_source, is_read, known_constant, one_pass, table_of}
 use Rattle.sc_opt.specs.declared.facts.Assigned.{Assigned}
 use Rattle.sc_opt.specs.declared.facts.Assigned.TheVariants.{ByConstant}
 use Rattle.sc_opt.proofs.AssignedFirst.{stays_assigned}
@@ -31,6 +31,7 @@ use Rattle.sc_opt.proofs.Copies.{all_sourced}
 use Rattle.sc_opt.proofs.Strays.{no_stray_break, no_stray_continue}
 use Rattle.sc_opt.proofs.Unread.{unread_first}
 use Rattle.sc_opt.proofs.UsedReads.{all_uses}
+use Rattle.sc_opt.proofs.Words.{known_words}
 
 -- ASSIGNED FIRST
 one_of_all : (n : ℕ) (body : List TacStmt) → all_assigned_first n body ≡ true → (t : ℕ) → t < n →
@@ -66,31 +67,35 @@ module _ (body : List TacStmt) where
   abbrev table : ℕ → Assigned
   table = table_of body
 
+  abbrev constants : ℕ → Option Constant
+  constants = known_constant table
+
   abbrev source : ℕ → ℕ
   source = copy_source table
 
   abbrev used : ℕ → Bool
-  used = is_read table source body
+  used = is_read constants source body
 
   abbrev holds_word : ℕ → Bool
   holds_word = always_word body
 
   -- a test that what the pass makes of each statement passes
-  pub pass_keeps : (test : TacStmt-F Bool → Bool) → Stays table source used holds_word test test →
+  pub pass_keeps : (test : TacStmt-F Bool → Bool) → Stays constants source used holds_word test test →
       everywhere test body ≡ true → everywhere test (one_pass body) ≡ true
-  pass_keeps test stays h = passed_keeps table source used holds_word test test stays body h
+  pass_keeps test stays h = passed_keeps constants source used holds_word test test stays body h
 
   first_after : ((t : ℕ) → is_assigned_first t body ≡ true) → (x : ℕ) → is_assigned_first x (one_pass body) ≡ true
   first_after h x = by (used x) refl where
     by : (b : Bool) → used x ≡ b → is_assigned_first x (one_pass body) ≡ true
-    by true is = stays_assigned table source used holds_word (all_sourced table used holds_word) x is body
+    by true is = stays_assigned table constants source used holds_word (all_sourced table used holds_word) x is body
         (λ t. inr (inl refl)) h
-    by false is = unread_first x (one_pass body) (passed_keeps table source used holds_word _ _
-        (unused_stay table source used holds_word x is) body (all_uses table source used holds_word body (λ x r. r)))
+    by false is = unread_first x (one_pass body) (passed_keeps constants source used holds_word _ _
+        (unused_stay constants source used holds_word x is) body
+        (all_uses constants source used holds_word body (λ x r. r)))
 
-  machine_words : everywhere has_words body ≡ true → (t : ℕ) (c : Constant) → table t ≡ ByConstant c →
+  machine_words : everywhere has_words body ≡ true → (t : ℕ) (c : Constant) → constants t ≡ Some c →
       is_machine_word c ≡ true
-  machine_words h t c is = subst (Found has_words t) is (found_in has_words t body h)
+  machine_words h = known_words table (λ t c is. subst (Found has_words t) is (found_in has_words t body h))
 
 pub pass_keeps_rules : (f : TacFnTree) → IsFunction f → IsFunction (changed_function one_pass f)
 pass_keeps_rules f rules =
@@ -100,7 +105,7 @@ pass_keeps_rules f rules =
       few_nodes = rules.few_nodes;
       few_temps = rules.few_temps;
       light = lighter (weight f.body) (weight (one_pass f.body))
-          (no_heavier (table f.body) (source f.body) (used f.body) (holds_word f.body) f.body) rules.light;
+          (no_heavier (constants f.body) (source f.body) (used f.body) (holds_word f.body) f.body) rules.light;
       params_stored = rules.params_stored;
       words_enter = rules.words_enter;
       own_temps = pass_keeps f.body _ (temps_stay _ _ _ _ f.temps own) rules.own_temps;
@@ -110,9 +115,10 @@ pass_keeps_rules f rules =
       operands = pass_keeps f.body _ (operands_stay _ _ _ _) rules.operands;
       few_arguments = pass_keeps f.body _ (arguments_stay _ _ _ _) rules.few_arguments;
       results_returned = pass_keeps f.body _ (results_stay _ _ _ _ f.result) rules.results_returned;
-      breaks_in_loops = no_stray_break (table f.body) (source f.body) (used f.body) (holds_word f.body) f.body
+      breaks_in_loops = no_stray_break (constants f.body) (source f.body) (used f.body) (holds_word f.body) f.body
           rules.breaks_in_loops;
-      continues_in_bodies = no_stray_continue (table f.body) (source f.body) (used f.body) (holds_word f.body) f.body
+      continues_in_bodies = no_stray_continue (constants f.body) (source f.body) (used f.body) (holds_word f.body)
+          f.body
           rules.continues_in_bodies;
       assigned_first = from_each f.temps (one_pass f.body)
           (first_after f.body (each_first f.temps f.body rules.own_temps rules.assigned_first));

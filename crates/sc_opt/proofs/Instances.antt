@@ -15,7 +15,6 @@ use Rattle.sc_tac.specs.declared.stmt.TacOp.{TacOp}
 use Rattle.sc_tac.specs.declared.stmt.TacStmt.{TacStmt-F}
 use Rattle.sc_tac.specs.declared.stmt.TacStmt.TheOpen as tac
 use Rattle.sc_opt.specs.Pass.{all_used, folded, reads_used, takes_promised, unless_folded}
-use Rattle.sc_opt.specs.declared.facts.Assigned.TheVariants.{ByConstant}
 use Rattle.sc_opt.proofs.Unread.{reads_not}
 use Rattle.sc_opt.proofs.Words.{folded_word}
 use Rattle.std.proofs.lemmas.List.{length-map}
@@ -27,9 +26,8 @@ use Rattle.sc_core.specs.Prelude.{most_params}
 use Rattle.sc_tac.specs.Prelude.{has_elements, has_operands, names_own_object, names_own_temps, one_or_none, passes_few}
 use Rattle.sc_tac.specs.Prelude.{returns_result, takes_two}
 use Rattle.sc_opt.proofs.Rules.{Stays, is_untouched}
-use Rattle.sc_opt.specs.declared.facts.Assigned.{Assigned}
 
-module _ (table : ℕ → Assigned) (source : ℕ → ℕ) (used holds_word : ℕ → Bool) where
+module _ (constants : ℕ → Option Constant) (source : ℕ → ℕ) (used holds_word : ℕ → Bool) where
   few : (args : List ℕ) → nat_le (length args) most_params ≡ true → nat_le (length (map source args)) most_params ≡ true
   few args h = ap (λ n. nat_le n most_params) (length-map args source) ∙ h
 
@@ -37,7 +35,7 @@ module _ (table : ℕ → Assigned) (source : ℕ → ℕ) (used holds_word : �
   some_same None = refl
   some_same (Some t) = refl
 
-  pub elements_stay : Stays table source used holds_word has_elements has_elements
+  pub elements_stay : Stays constants source used holds_word has_elements has_elements
   elements_stay = record {
     untouched = λ k n h. h;
     copied = λ d from n h. h;
@@ -55,7 +53,7 @@ module _ (table : ℕ → Assigned) (source : ℕ → ℕ) (used holds_word : �
     returned = λ value h. h;
   }
 
-  pub objects_stay : (objects : ℕ) → Stays table source used holds_word (names_own_object objects)
+  pub objects_stay : (objects : ℕ) → Stays constants source used holds_word (names_own_object objects)
       (names_own_object objects)
   objects_stay objects = record {
     untouched = λ k n h. h;
@@ -74,7 +72,7 @@ module _ (table : ℕ → Assigned) (source : ℕ → ℕ) (used holds_word : �
     returned = λ value h. h;
   }
 
-  pub operands_stay : Stays table source used holds_word has_operands has_operands
+  pub operands_stay : Stays constants source used holds_word has_operands has_operands
   operands_stay = record {
     untouched = λ k n h. h;
     copied = λ d from n h. h;
@@ -92,7 +90,7 @@ module _ (table : ℕ → Assigned) (source : ℕ → ℕ) (used holds_word : �
     returned = λ value h. h;
   }
 
-  pub arguments_stay : Stays table source used holds_word passes_few passes_few
+  pub arguments_stay : Stays constants source used holds_word passes_few passes_few
   arguments_stay = record {
     untouched = λ k n h. h;
     copied = λ d from n h. h;
@@ -110,7 +108,7 @@ module _ (table : ℕ → Assigned) (source : ℕ → ℕ) (used holds_word : �
     returned = λ value h. h;
   }
 
-  pub results_stay : (result : Bool) → Stays table source used holds_word (returns_result result)
+  pub results_stay : (result : Bool) → Stays constants source used holds_word (returns_result result)
       (returns_result result)
   results_stay result = record {
     untouched = λ k n h. h;
@@ -130,13 +128,13 @@ module _ (table : ℕ → Assigned) (source : ℕ → ℕ) (used holds_word : �
   }
 
   -- constants, where those of the code are machine words
-  pub words_stay : ((t : ℕ) (c : Constant) → table t ≡ ByConstant c → is_machine_word c ≡ true) →
-      Stays table source used holds_word has_words has_words
+  pub words_stay : ((t : ℕ) (c : Constant) → constants t ≡ Some c → is_machine_word c ≡ true) →
+      Stays constants source used holds_word has_words has_words
   words_stay words = record {
     untouched = λ k n h. h;
     copied = λ d from n h. refl;
     operated = λ d o left right n h. refl;
-    computed = λ d o left right c h is. folded_word table source used holds_word words o left right c is;
+    computed = λ d o left right c h is. folded_word constants words o left right c is;
     loaded = λ d place pointer h. refl;
     stored = λ place value h. refl;
     forked = λ cond a b c d h. refl;
@@ -150,7 +148,7 @@ module _ (table : ℕ → Assigned) (source : ℕ → ℕ) (used holds_word : �
   }
 
   module _ (interfaces : Interfaces) (comp : ℕ) (section : TacSection) where
-    pub globals_stay : Stays table source used holds_word (names_own_global interfaces comp section)
+    pub globals_stay : Stays constants source used holds_word (names_own_global interfaces comp section)
         (names_own_global interfaces comp section)
     globals_stay = record {
       untouched = λ k n h. h;
@@ -170,7 +168,7 @@ module _ (table : ℕ → Assigned) (source : ℕ → ℕ) (used holds_word : �
     }
 
     pub own_calls_stay :
-        Stays table source used holds_word (calls_own interfaces comp section) (calls_own interfaces comp section)
+        Stays constants source used holds_word (calls_own interfaces comp section) (calls_own interfaces comp section)
     own_calls_stay = record {
       untouched = λ k n h. h;
       copied = λ d from n h. refl;
@@ -190,7 +188,7 @@ module _ (table : ℕ → Assigned) (source : ℕ → ℕ) (used holds_word : �
     }
 
     pub cross_calls_stay :
-        Stays table source used holds_word (calls_exports interfaces comp section)
+        Stays constants source used holds_word (calls_exports interfaces comp section)
         (calls_exports interfaces comp section)
     cross_calls_stay = record {
       untouched = λ k n h. h;
@@ -211,7 +209,7 @@ module _ (table : ℕ → Assigned) (source : ℕ → ℕ) (used holds_word : �
     }
 
     pub imports_stay :
-        Stays table source used holds_word (calls_imports interfaces comp section)
+        Stays constants source used holds_word (calls_imports interfaces comp section)
         (calls_imports interfaces comp section)
     imports_stay = record {
       untouched = λ k n h. h;
@@ -244,7 +242,7 @@ module _ (table : ℕ → Assigned) (source : ℕ → ℕ) (used holds_word : �
   cross_taken gives (Some d) comp index args h = h
 
   pub promises_stay : (gives : CallTarget → Bool) →
-      Stays table source used holds_word (takes_promised gives) (takes_promised gives)
+      Stays constants source used holds_word (takes_promised gives) (takes_promised gives)
   promises_stay gives = record {
     untouched = λ k n h. h;
     copied = λ d from n h. refl;
@@ -285,14 +283,14 @@ module _ (table : ℕ → Assigned) (source : ℕ → ℕ) (used holds_word : �
     maybe_none (Some t) h = none_read (t ∷ []) h
 
     unless : (d : ℕ) (o : TacOp) (left : ℕ) (right : Option ℕ) →
-        folded table o left right ≡ None →
-        reads_used table source used (tac.Op d o left right) ≡ true →
+        folded constants o left right ≡ None →
+        reads_used constants source used (tac.Op d o left right) ≡ true →
         all_used source used (left ∷ one_or_none right) ≡ true
     unless d o left right none h =
         sym (ap (λ f. unless_folded source used f (left ∷ one_or_none right)) none) ∙ h
 
     pub unused_stay :
-        Stays table source used holds_word (reads_used table source used) (reads_not x)
+        Stays constants source used holds_word (reads_used constants source used) (reads_not x)
     unused_stay = record {
       untouched = untouched_reads;
       copied = λ d from n h. reads_none (from ∷ []) (and_from (used (source from)) true
@@ -313,7 +311,7 @@ module _ (table : ℕ → Assigned) (source : ℕ → ℕ) (used holds_word : �
       returned = λ value h. ap not (maybe_none value h);
     } where
       untouched_reads : (k : TacStmt-F Bool) → is_untouched k ≡ true →
-          reads_used table source used k ≡ true → reads_not x k ≡ true
+          reads_used constants source used k ≡ true → reads_not x k ≡ true
       untouched_reads (tac.Const dest value) n h = refl
       untouched_reads (tac.ObjectPlace dest object) n h = refl
       untouched_reads (tac.GlobalPlace dest global) n h = refl
@@ -322,7 +320,7 @@ module _ (table : ℕ → Assigned) (source : ℕ → ℕ) (used holds_word : �
       untouched_reads (tac.Input dest) n h = refl
       untouched_reads _ n h = absurd (cc n)
 
-  -- copy_sources are temporaries of the function
+  -- sources are temporaries of the function
   module _ (temps : ℕ) (inside : (t : ℕ) → nat_lt t temps ≡ true → nat_lt (source t) temps ≡ true) where
     abbrev own : List ℕ → Bool
     own ts = list_all (λ t. nat_lt t temps) ts
@@ -342,7 +340,7 @@ module _ (table : ℕ → Assigned) (source : ℕ → ℕ) (used holds_word : �
     one_more None = refl
     one_more (Some t) = refl
 
-    pub temps_stay : Stays table source used holds_word (names_own_temps temps) (names_own_temps temps)
+    pub temps_stay : Stays constants source used holds_word (names_own_temps temps) (names_own_temps temps)
     temps_stay = record {
       untouched = λ k n h. h;
       copied = λ d from n h. following (Some d) (from ∷ []) h;

@@ -6,7 +6,8 @@ use Rattle.sc_core.specs.declared.value.Value.{Value}
 use Rattle.sc_tac.specs.Prelude.{Temps, with_temp}
 use Rattle.sc_opt.specs.Pass.{is_once, joined}
 use Rattle.sc_opt.specs.declared.facts.Assigned.{Assigned}
-use Rattle.sc_opt.specs.declared.facts.Assigned.TheVariants.{ByConstant, ByCopy, Nowhere, Otherwise, Several}
+use Rattle.sc_opt.specs.declared.facts.Assigned.TheVariants.{ByConstant, ByCopy, ByOperator, Nowhere, Otherwise}
+use Rattle.sc_opt.specs.declared.facts.Assigned.TheVariants.{Several}
 
 -- what part of the code says agrees with what all of it says
 abbrev pub AtMost : Assigned → Assigned → Type 0
@@ -24,6 +25,7 @@ pub below_first : (x y z : Assigned) → AtMost (joined x y) z → AtMost x z
 below_first Nowhere y z h = inl refl
 below_first (ByConstant c) Nowhere z h = h
 below_first (ByCopy u) Nowhere z h = h
+below_first (ByOperator o left right) Nowhere z h = h
 below_first Otherwise Nowhere z h = h
 below_first x y z h = below_often x z h
 
@@ -31,6 +33,7 @@ pub below_rest : (x y z : Assigned) → AtMost (joined x y) z → AtMost y z
 below_rest Nowhere y z h = h
 below_rest (ByConstant c) Nowhere z h = inl refl
 below_rest (ByCopy u) Nowhere z h = inl refl
+below_rest (ByOperator o left right) Nowhere z h = inl refl
 below_rest Otherwise Nowhere z h = inl refl
 below_rest x y z h = below_often y z h
 
@@ -38,17 +41,19 @@ pub never_both : (x y : Assigned) → joined x y ≡ Nowhere → (x ≡ Nowhere)
 never_both Nowhere y h = (refl, h)
 never_both (ByConstant c) Nowhere h = absurd (cc h)
 never_both (ByCopy u) Nowhere h = absurd (cc h)
+never_both (ByOperator o left right) Nowhere h = absurd (cc h)
 never_both Otherwise Nowhere h = absurd (cc h)
 never_both x y h = absurd (cc h)
 
 once_only : {B : Type 0} (z : Assigned) → is_once z ≡ true → z ≡ Several → B
 once_only z once is = let no : false ≡ true = sym (ap is_once is) ∙ once in absurd (cc no)
 
--- what is assigned_first in one place is assigned_first in one of two parts alone
+-- what is assigned in one place is assigned in one of two parts alone
 pub one_part : (x y z : Assigned) → is_once z ≡ true → AtMost (joined x y) z → (x ≡ Nowhere) ⊎ (y ≡ Nowhere)
 one_part Nowhere y z once h = inl refl
 one_part (ByConstant c) Nowhere z once h = inr refl
 one_part (ByCopy u) Nowhere z once h = inr refl
+one_part (ByOperator o left right) Nowhere z once h = inr refl
 one_part Otherwise Nowhere z once h = inr refl
 one_part x y z once h = once_only z once (is_often z h)
 

@@ -11,6 +11,7 @@ use Rattle.sc_core.specs.Prelude.{Return, State, all_do, and_then, choose, compu
 use Rattle.sc_core.specs.Combinators.{elements_allocated, released}
 use Rattle.sc_core.specs.Prelude.{is_word, leave, load, stored, with_memory}
 use Rattle.sc_core.specs.Memory.{freed, store}
+use Rattle.sc_core.specs.declared.cause.Cause.{Cause}
 use Rattle.sc_core.specs.declared.expr.CallTarget.{CallTarget}
 use Rattle.sc_core.specs.declared.expr.CallTarget.TheVariants.{Own, Cross, Input, Output}
 use Rattle.sc_core.specs.declared.value.Value.{Value}
@@ -28,7 +29,7 @@ use Rattle.sc_tac.specs.declared.stmt.TacOp.{TacOp}
 use Rattle.sc_tac.specs.declared.stmt.TacStmt.{TacStmt, TacStmt-F, fold-TacStmt, fold-roll-TacStmt, map-TacStmt}
 use Rattle.sc_tac.specs.declared.stmt.TacStmt.{roll-TacStmt}
 use Rattle.sc_tac.specs.declared.stmt.TacStmt.TheOpen as tac
-use Rattle.sc_opt.specs.Pass.{all_joined, all_used, constant_of, folded, assigned}
+use Rattle.sc_opt.specs.Pass.{all_joined, all_used, folded, assigned}
 use Rattle.sc_opt.specs.Pass.{is_word_constant, folded_from, assigned_step, gives_word, is_once, is_total}
 use Rattle.sc_opt.specs.Pass.{keep_if, assigns_words}
 use Rattle.sc_opt.specs.Pass.{on_constants, operator_code, pass, pass_step, present, reads_used, right_holds_word}
@@ -37,7 +38,7 @@ use Rattle.sc_opt.specs.Pass.{takes_promised, unless_folded, with_second}
 use Rattle.sc_opt.proofs.Joined.{AtMost, below_first, below_rest, live_before, live_behind, never_both}
 use Rattle.sc_opt.proofs.Joined.{not_same}
 use Rattle.sc_opt.proofs.Joined.{one_part}
-use Rattle.sc_opt.proofs.Agreement.{AreSources, Moved, begun, less}
+use Rattle.sc_opt.proofs.Agreement.{AreConstants, AreSources, Computed, Moved, begun, less}
 use Rattle.sc_opt.proofs.Related.{At, Assignments, Follows, NotYet, AddsOnly, across, follows_along, follows_row}
 use Rattle.sc_opt.proofs.Related.{follows_rounds, follows_within}
 use Rattle.sc_opt.proofs.Values.{Fits, load_word, total_gives, words_computed}
@@ -45,7 +46,8 @@ use Rattle.sc_opt.proofs.Steps.{computed_related, does_option, either, gone, no_
 use Rattle.sc_opt.proofs.Steps.{plain_source, read_then, reads_all, rolled, stays, both}
 use Rattle.sc_opt.proofs.Steps.{piece_related, unread}
 use Rattle.sc_opt.specs.declared.facts.Assigned.{Assigned}
-use Rattle.sc_opt.specs.declared.facts.Assigned.TheVariants.{ByConstant, ByCopy, Nowhere, Otherwise, Several}
+use Rattle.sc_opt.specs.declared.facts.Assigned.TheVariants.{ByConstant, ByCopy, ByOperator, Nowhere, Otherwise}
+use Rattle.sc_opt.specs.declared.facts.Assigned.TheVariants.{Several}
 
 some_otherwise : Otherwise ≡ Nowhere → ⊥
 some_otherwise h = absurd (cc h)
@@ -55,6 +57,9 @@ no_copy u h = absurd (cc h)
 
 no_by_constant : (c : Constant) → Otherwise ≡ ByConstant c → ⊥
 no_by_constant c h = absurd (cc h)
+
+no_operator : (o : TacOp) (left : ℕ) (right : Option ℕ) → Otherwise ≡ ByOperator o left right → ⊥
+no_operator o left right h = absurd (cc h)
 
 -- what a statement gives to what it assigns
 assigned_here : (d : ℕ) (x : Assigned) → (if d == d then x else Nowhere) ≡ x
@@ -74,8 +79,9 @@ not_this d h = let no : false ≡ true = sym (ap (λ e. not (e || false)) (eq-eq
 one_read : (t : ℕ) (following : Bool) → ((t == t || false) || following) ≡ true
 one_read t following = or_left (t == t || false) following (or_left (t == t) false (eq-eqb t t refl))
 
-module _ (table : ℕ → Assigned) (source : ℕ → ℕ) (used holds_word : ℕ → Bool)
+module _ (table : ℕ → Assigned) (constants : ℕ → Option Constant) (source : ℕ → ℕ) (used holds_word : ℕ → Bool)
     (are_sources : AreSources table source used holds_word)
+    (are_constants : AreConstants table constants source used holds_word)
     (arith : Arith) (fits : Fits arith) (here : Here) (C D : Calls) (gives : CallTarget → Bool)
     (calls : (target : CallTarget) (args : List Value) (s : State) →
     PiecesAgree (C here.comp target args s) (D here.comp target args s))
@@ -85,13 +91,13 @@ module _ (table : ℕ → Assigned) (source : ℕ → ℕ) (used holds_word : �
   first stmt lives t = (reading t stmt).first (ahead_at lives t)
 
   abbrev pub Known : TempSet → Temps → Temps → Temps → Type 0
-  Known = At table source used holds_word
+  Known = At table constants source used holds_word
 
   abbrev pub New : Temps → Assignments → Type 0
-  New = NotYet table source used holds_word
+  New = NotYet table constants source used holds_word
 
   abbrev pub Keeps : Lives → Temps → Assignments → Piece (Left Temps) → Piece (Left Temps) → Type 0
-  Keeps = Follows table source used holds_word
+  Keeps = Follows table constants source used holds_word
 
   abbrev pub gone_or : Option TacStmt → Codes
   gone_or = does_option arith here D
@@ -100,13 +106,13 @@ module _ (table : ℕ → Assigned) (source : ℕ → ℕ) (used holds_word : �
   word_test t = fold-TacStmt Bool (with_parts (assigns_words t))
 
   abbrev pub use_test : TacStmt → Bool
-  use_test = fold-TacStmt Bool (with_parts (reads_used table source used))
+  use_test = fold-TacStmt Bool (with_parts (reads_used constants source used))
 
   abbrev pub give_test : TacStmt → Bool
   give_test = fold-TacStmt Bool (with_parts (takes_promised gives))
 
   abbrev pub passes : TacStmt → Option TacStmt
-  passes = pass table source used holds_word
+  passes = pass constants source used holds_word
 
   -- what holds of a layer, from what is told of its parts
   pub record Rules (assignments : ℕ → Assigned) (word_tests : ℕ → Bool) (use_tests give_tests : Bool)
@@ -135,7 +141,7 @@ module _ (table : ℕ → Assigned) (source : ℕ → ℕ) (used holds_word : �
   words_at k t = with_parts (assigns_words t) (map-TacStmt _ _ (word_test t) k)
 
   abbrev use_at : TacStmt-F TacStmt → Bool
-  use_at k = with_parts (reads_used table source used) (map-TacStmt _ _ use_test k)
+  use_at k = with_parts (reads_used constants source used) (map-TacStmt _ _ use_test k)
 
   abbrev give_at : TacStmt-F TacStmt → Bool
   give_at k = with_parts (takes_promised gives) (map-TacStmt _ _ give_test k)
@@ -145,7 +151,7 @@ module _ (table : ℕ → Assigned) (source : ℕ → ℕ) (used holds_word : �
       Rules (assigned_at k) (words_at k) (use_at k) (give_at k) (λ t. (reading_at k t).fresh (ahead_at lives t)) →
       Known (λ t. (reading_at k t).first (ahead_at lives t)) g a b → New g (assigned_at k) →
       Keeps lives g (assigned_at k) (code_step arith here C (map-TacStmt _ _ (stmt_does arith here C) k) a s)
-      (gone_or (pass_step table source used holds_word (map-TacStmt _ _ passes k)) b s)
+      (gone_or (pass_step constants source used holds_word (map-TacStmt _ _ passes k)) b s)
 
   rolled_up : (k : TacStmt-F TacStmt) → KeptAt k → Kept (roll-TacStmt k)
   rolled_up k h lives g a b s rules p new =
@@ -158,21 +164,22 @@ module _ (table : ℕ → Assigned) (source : ℕ → ℕ) (used holds_word : �
       (λ t. (reading_at k t).fresh (ahead_at lives t)) = record {
         below = λ t. subst (λ x. AtMost x (table t)) (ap (λ f. f t) assigned_is) (rules.below t);
         words = λ t w. sym (fold-roll-TacStmt Bool (with_parts (assigns_words t)) k) ∙ rules.words t w;
-        uses = sym (fold-roll-TacStmt Bool (with_parts (reads_used table source used)) k) ∙ rules.uses;
+        uses = sym (fold-roll-TacStmt Bool (with_parts (reads_used constants source used)) k) ∙ rules.uses;
         takes = sym (fold-roll-TacStmt Bool (with_parts (takes_promised gives)) k) ∙ rules.takes;
         fresh = λ t. sym (ap (λ r. r.fresh (ahead_at lives t)) (reading_is t)) ∙ rules.fresh t;
       } in
-      let p' = less table source used holds_word (first (roll-TacStmt k) lives)
+      let p' = less table constants source used holds_word (first (roll-TacStmt k) lives)
       (λ t. (reading_at k t).first (ahead_at lives t)) g a b
       (λ t on. ap (λ r. r.first (ahead_at lives t)) (reading_is t) ∙ on) p in
       let new' : New g (assigned_at k) = subst (New g) assigned_is new in
       subst (λ c. Keeps lives g c (stmt_does arith here C (roll-TacStmt k) a s) (gone_or (passes (roll-TacStmt k)) b s))
       (sym assigned_is)
       (subst (λ o. Keeps lives g (assigned_at k) (stmt_does arith here C (roll-TacStmt k) a s) (gone_or o b s))
-      (sym (fold-roll-TacStmt (Option TacStmt) (pass_step table source used holds_word) k))
-      (subst (λ x. Keeps lives g (assigned_at k) x (gone_or (pass_step table source used holds_word
+      (sym (fold-roll-TacStmt (Option TacStmt) (pass_step constants source used holds_word) k))
+      (subst (λ x. Keeps lives g (assigned_at k) x (gone_or (pass_step constants source used holds_word
       (map-TacStmt _ _ passes k)) b s))
-      (sym (rolled table source used holds_word are_sources arith here C D C k a s)) (h lives g a b s rules' p' new')))
+      (sym (rolled table constants source used holds_word are_sources arith here C D C k a s))
+      (h lives g a b s rules' p' new')))
 
   -- STATEMENTS IN ORDER
   abbrev pub row_assigned : List TacStmt → Assignments
@@ -205,11 +212,11 @@ module _ (table : ℕ → Assigned) (source : ℕ → ℕ) (used holds_word : �
 
   row_kept : (stmts : List TacStmt) → Each Kept stmts → RowKept stmts
   row_kept [] each lives g a b s rules p new =
-      stays table source used holds_word are_sources arith here C D lives g (row_assigned [])
+      stays table constants source used holds_word are_sources arith here C D lives g (row_assigned [])
       (row_reads [] lives) a b p s (λ t on. on)
   row_kept (x ∷ rest) each lives g a b s rules p new =
-      follows_along table source used holds_word (added (passes x) (map passes rest) b s)
-      (follows_row table source used holds_word lives (row_reads rest lives) g (row_assigned (x ∷ rest))
+      follows_along table constants source used holds_word (added (passes x) (map passes rest) b s)
+      (follows_row table constants source used holds_word lives (row_reads rest lives) g (row_assigned (x ∷ rest))
       (λ t. assigned t x) (row_assigned rest)
       (λ t n. never_both (assigned t x) (row_assigned rest t) n) (row_does rest) (row_done rest)
       (λ g' a b s known adds. row_kept rest each.1 lives g' a b s (record {
@@ -260,37 +267,41 @@ module _ (table : ℕ → Assigned) (source : ℕ → ℕ) (used holds_word : �
     still_live : (t : ℕ) → lives.following t ≡ true → (t == d) ≡ false → first_reads t ≡ true
     still_live t on n = live_before t d (reads t) (lives.following t) n on
 
-    module _ (is : assignments d ≡ Otherwise) where
+    module _ (x : Assigned) (is : assignments d ≡ x) (some : x ≡ Nowhere → ⊥) (not_copy : (u : ℕ) → x ≡ ByCopy u → ⊥)
+        (v : Value) (const : (c : Constant) → constants d ≡ Some c → v ≡ constant_value c) (s : State)
+        (word : holds_word d ≡ true → is_word v ≡ true) where
       source_here : source d ≡ d
-      source_here = plain_source table source used holds_word are_sources arith here C D d Otherwise
-          (subst (λ x. AtMost x (table d)) is (low d)) some_otherwise no_copy
+      source_here = plain_source table constants source used holds_word are_sources arith here C D d x
+          (subst (λ x. AtMost x (table d)) is (low d)) some not_copy
 
-      constant_not : (v : Value) (c : Constant) → table d ≡ ByConstant c → v ≡ constant_value c
-      constant_not v c = no_constant table source used holds_word are_sources arith here C D d Otherwise c
-          (subst (λ x. AtMost x (table d)) is (low d)) some_otherwise no_by_constant
+      given_either : (u : Bool) → used d ≡ u → (k : TacStmt-F TacStmt) →
+          code_step arith here D (map-TacStmt _ _ (stmt_does arith here D) k) b s ≡ leave Next (with_temp d v b) s →
+          Keeps lives g assignments (leave Next (with_temp d v a) s) (gone_or (keep_if u k) b s)
+      given_either = either table constants source used holds_word are_sources arith here C D lives g assignments
+          first_reads a b p d v s (not_before x is some) (λ n. some (sym is ∙ n)) still_live const word source_here
+
+      given_unread : used d ≡ false → Keeps lives g assignments (leave Next (with_temp d v a) s) (leave Next b s)
+      given_unread = unread table constants source used holds_word are_sources arith here C D lives g assignments
+          first_reads a b p d v s (not_before x is some) (λ n. some (sym is ∙ n)) still_live const word source_here
+
+      given_both : Keeps lives g assignments (leave Next (with_temp d v a) s) (leave Next (with_temp d v b) s)
+      given_both = both table constants source used holds_word are_sources arith here C D lives g assignments
+          first_reads a b p d v s (not_before x is some) (λ n. some (sym is ∙ n)) still_live const word source_here
+
+    module _ (is : assignments d ≡ Otherwise) where
+      constant_not : (v : Value) (c : Constant) → constants d ≡ Some c → v ≡ constant_value c
+      constant_not v c = no_constant table constants source used holds_word are_sources arith here C D are_constants d
+          Otherwise c (subst (λ x. AtMost x (table d)) is (low d)) some_otherwise no_by_constant no_operator
 
       gets_either : (v : Value) (s : State) → (holds_word d ≡ true → is_word v ≡ true) → (u : Bool) → used d ≡ u →
           (k : TacStmt-F TacStmt) →
           code_step arith here D (map-TacStmt _ _ (stmt_does arith here D) k) b s ≡ leave Next (with_temp d v b) s →
           Keeps lives g assignments (leave Next (with_temp d v a) s) (gone_or (keep_if u k) b s)
-      gets_either v s word = either table source used holds_word are_sources arith here C D lives g assignments
-          first_reads a b p d v s
-          (not_before Otherwise is some_otherwise) (λ n. some_otherwise (sym is ∙ n)) still_live
-          (constant_not v) word source_here
-
-      gets_unread : (v : Value) (s : State) → (holds_word d ≡ true → is_word v ≡ true) → used d ≡ false →
-          Keeps lives g assignments (leave Next (with_temp d v a) s) (leave Next b s)
-      gets_unread v s word = unread table source used holds_word are_sources arith here C D lives g assignments
-          first_reads a b p d v s
-          (not_before Otherwise is some_otherwise) (λ n. some_otherwise (sym is ∙ n)) still_live
-          (constant_not v) word source_here
+      gets_either v s word = given_either Otherwise is some_otherwise no_copy v (constant_not v) s word
 
       gets_both : (v : Value) (s : State) → (holds_word d ≡ true → is_word v ≡ true) →
           Keeps lives g assignments (leave Next (with_temp d v a) s) (leave Next (with_temp d v b) s)
-      gets_both v s word = both table source used holds_word are_sources arith here C D lives g assignments
-          first_reads a b p d v s
-          (not_before Otherwise is some_otherwise) (λ n. some_otherwise (sym is ∙ n)) still_live
-          (constant_not v) word source_here
+      gets_both v s word = given_both Otherwise is some_otherwise no_copy v (constant_not v) s word
 
   -- OPERATORS
   module _ (lives : Lives) (g a b : Temps) (s : State) (live : TempSet) (p : Known live g a b) where
@@ -300,7 +311,7 @@ module _ (table : ℕ → Assigned) (source : ℕ → ℕ) (used holds_word : �
       here_is : second here right v a s ≡ Reached value s
       there_is : all_used source used (one_or_none right) ≡ true →
           second here (option_map source right) v b s ≡ Reached value s
-      constant_is : (c k : Constant) → with_second table o c right ≡ Some k → v ≡ constant_value c →
+      constant_is : (c k : Constant) → with_second constants o c right ≡ Some k → v ≡ constant_value c →
           (e : Constant) × (value ≡ constant_value e) × (on_constants o c e ≡ Some k)
       word : right_holds_word holds_word right ≡ true → is_word value ≡ true
 
@@ -320,17 +331,14 @@ module _ (table : ℕ → Assigned) (source : ℕ → ℕ) (used holds_word : �
           here_is = ap (λ x. computed here 0 (known x) s) h.real;
           there_is = λ u. ap (λ x. computed here 0 (known x) s)
               (p.kept t h.value h.ghost (and_first (used (source t)) true u));
-          constant_is = λ c k e is. by h.value h.ghost c k (table t) refl e;
+          constant_is = λ c k e is. by h.value h.ghost c k (constants t) refl e;
           word = λ w. p.words t h.value w h.ghost;
         } where
-          by : (w : Value) → g t ≡ Some w → (c k : Constant) (x : Assigned) → table t ≡ x →
-              second_constant o c (constant_of x) ≡ Some k →
+          by : (w : Value) → g t ≡ Some w → (c k : Constant) (x : Option Constant) → constants t ≡ x →
+              second_constant o c x ≡ Some k →
               (e : Constant) × (w ≡ constant_value e) × (on_constants o c e ≡ Some k)
-          by w ghost c k Nowhere is e = absurd (cc e)
-          by w ghost c k (ByConstant d) is e = (d, p.constant t d w is ghost, e)
-          by w ghost c k (ByCopy u) is e = absurd (cc e)
-          by w ghost c k Otherwise is e = absurd (cc e)
-          by w ghost c k Several is e = absurd (cc e)
+          by w ghost c k None is e = absurd (cc e)
+          by w ghost c k (Some d) is e = (d, p.constant t d w is ghost, e)
 
     record Operands (o : TacOp) (left : ℕ) (right : Option ℕ) : Type 0 where
       one : Value
@@ -340,7 +348,7 @@ module _ (table : ℕ → Assigned) (source : ℕ → ℕ) (used holds_word : �
       there_is : all_used source used (left ∷ one_or_none right) ≡ true → (d : ℕ) →
           op_does here arith d o (source left) (option_map source right) b s
           ≡ gets here d (operated arith (s.memory here.comp) o one two) b s
-      folds : (k : Constant) → folded table o left right ≡ Some k →
+      folds : (k : Constant) → folded constants o left right ≡ Some k →
           operated arith (s.memory here.comp) o one two ≡ Ok (constant_value k)
       totals : is_total holds_word o left right ≡ true →
           (z : Value) × (operated arith (s.memory here.comp) o one two ≡ Ok z)
@@ -363,29 +371,26 @@ module _ (table : ℕ → Assigned) (source : ℕ → ℕ) (used holds_word : �
               (p.kept left h.value h.ghost (and_first (used (source left)) _ u))
               ∙ ap (λ x. and_then x (λ w s. gets here d (operated arith (s.memory here.comp) o h.value w) b s))
               (r.there_is (and_rest (used (source left)) _ u));
-          folds = λ k e. by h.value h.ghost r k (table left) refl e;
-          totals = λ h'. total_gives table source used holds_word arith fits
+          folds = λ k e. by h.value h.ghost r k (constants left) refl e;
+          totals = λ h'. total_gives holds_word arith fits
               (s.memory here.comp) o left right h.value r.value h'
               (λ w. p.words left h.value w h.ghost) r.word;
         } where
-          by : (v : Value) → g left ≡ Some v → (r : Second o right v) (k : Constant) (x : Assigned) → table left ≡ x →
-              folded_from table o (constant_of x) right ≡ Some k →
+          by : (v : Value) → g left ≡ Some v → (r : Second o right v) (k : Constant) (x : Option Constant) →
+              constants left ≡ x → folded_from constants o x right ≡ Some k →
               operated arith (s.memory here.comp) o v r.value ≡ Ok (constant_value k)
-          by v ghost r k Nowhere is e = absurd (cc e)
-          by v ghost r k (ByConstant c) is e =
+          by v ghost r k None is e = absurd (cc e)
+          by v ghost r k (Some c) is e =
               let same = p.constant left c v is ghost in
               let f = r.constant_is c k e same in
               subst (λ v. operated arith (s.memory here.comp) o v r.value ≡ Ok (constant_value k)) (sym same)
               (subst (λ w. operated arith (s.memory here.comp) o (constant_value c) w ≡ Ok (constant_value k)) (sym f.1)
               (fits.folds o c f.0 (s.memory here.comp) k f.2))
-          by v ghost r k (ByCopy u) is e = absurd (cc e)
-          by v ghost r k Otherwise is e = absurd (cc e)
-          by v ghost r k Several is e = absurd (cc e)
 
   -- EACH KIND OF STATEMENT
   const_kept : (d : ℕ) (value : Constant) → KeptAt (tac.Const d value)
   const_kept d value lives g a b s rules p new =
-      either table source used holds_word are_sources arith here C D lives g (assigned_at (tac.Const d value))
+      either table constants source used holds_word are_sources arith here C D lives g (assigned_at (tac.Const d value))
       (first_reads lives g a b (assigned_at (tac.Const d value)) (λ t. false) d p new rules.below) a b p d
       (constant_value value) s
       (not_before lives g a b (assigned_at (tac.Const d value)) (λ t. false) d p new rules.below
@@ -393,7 +398,7 @@ module _ (table : ℕ → Assigned) (source : ℕ → ℕ) (used holds_word : �
       (λ n. never (sym is ∙ n)) (still_live lives g a b (assigned_at (tac.Const d value))
       (λ t. false) d p new rules.below) const
       (λ w. word value (of_this d (is_word_constant value) (and_first _ true (rules.words d w))))
-      (plain_source table source used holds_word are_sources arith here C D d (ByConstant value) low never
+      (plain_source table constants source used holds_word are_sources arith here C D d (ByConstant value) low never
       (λ u n. absurd (cc n)))
       (used d) refl (tac.Const d value) refl where
         is : assigned_at (tac.Const d value) d ≡ ByConstant value
@@ -405,13 +410,19 @@ module _ (table : ℕ → Assigned) (source : ℕ → ℕ) (used holds_word : �
         never : ByConstant value ≡ Nowhere → ⊥
         never n = absurd (cc n)
 
-        const : (c : Constant) → table d ≡ ByConstant c → constant_value value ≡ constant_value c
-        const c e = by low where
-          by : AtMost (ByConstant value) (table d) → constant_value value ≡ constant_value c
-          by (inl n) = absurd (never n)
-          by (inr (inl h)) = let same : ByConstant value ≡ ByConstant c = h ∙ e in let one : value ≡ c = cc same in
-              ap constant_value one
-          by (inr (inr h)) = let no : ByConstant c ≡ Several = sym e ∙ h in absurd (cc no)
+        const : (c : Constant) → constants d ≡ Some c → constant_value value ≡ constant_value c
+        const c e = by (are_constants d c e) low where
+          by : ((table d ≡ ByConstant c) ⊎ Computed table constants source used holds_word d c) →
+              AtMost (ByConstant value) (table d) → constant_value value ≡ constant_value c
+          by k (inl n) = absurd (never n)
+          by (inl is) (inr (inl h)) =
+              let same : ByConstant value ≡ ByConstant c = h ∙ is in
+              let one : value ≡ c = cc same in ap constant_value one
+          by (inl is) (inr (inr h)) = let no : ByConstant c ≡ Several = sym is ∙ h in absurd (cc no)
+          by (inr m) (inr (inl h)) =
+              let no : ByConstant value ≡ ByOperator m.op m.left m.right = h ∙ m.assigned in absurd (cc no)
+          by (inr m) (inr (inr h)) =
+              let no : ByOperator m.op m.left m.right ≡ Several = sym m.assigned ∙ h in absurd (cc no)
 
         word : (value : Constant) → is_word_constant value ≡ true → is_word (constant_value value) ≡ true
         word (constant.Word w) h = refl
@@ -420,7 +431,7 @@ module _ (table : ℕ → Assigned) (source : ℕ → ℕ) (used holds_word : �
   copy_kept : (d from : ℕ) → KeptAt (tac.Copy d from)
   copy_kept d from lives g a b s rules p new =
       let h = p.held from (one_read from _) in
-      across table source used holds_word
+      across table constants source used holds_word
       (ap (λ x. and_then (computed here 0 (known x) s) (λ v s. leave Next (with_temp d v a) s)) h.real) refl
       (by h.value h.ghost (source d == source from) refl (used d) refl) where
         is : assigned_at (tac.Copy d from) d ≡ ByCopy from
@@ -432,9 +443,9 @@ module _ (table : ℕ → Assigned) (source : ℕ → ℕ) (used holds_word : �
         never : ByCopy from ≡ Nowhere → ⊥
         never n = absurd (cc n)
 
-        const : (v : Value) (c : Constant) → table d ≡ ByConstant c → v ≡ constant_value c
-        const v c = no_constant table source used holds_word are_sources arith here C D d (ByCopy from) c low never
-            (λ c n. absurd (cc n))
+        const : (v : Value) (c : Constant) → constants d ≡ Some c → v ≡ constant_value c
+        const v c = no_constant table constants source used holds_word are_sources arith here C D are_constants d
+            (ByCopy from) c low never (λ c n. absurd (cc n)) (λ o left right n. absurd (cc n))
 
         word : (v : Value) → holds_word d ≡ true → is_word v ≡ true
         word v w = not_this d (and_first _ true (rules.words d w))
@@ -458,7 +469,8 @@ module _ (table : ℕ → Assigned) (source : ℕ → ℕ) (used holds_word : �
             (gone_or (keep_if (not r && u) (tac.Copy d (source from))) b s)
         by v ghost true same u e =
             let one : source d ≡ source from = eqb-true (source d) (source from) same in
-            gone table source used holds_word are_sources arith here C D lives g (assigned_at (tac.Copy d from))
+            gone table constants source used holds_word are_sources arith here C D lives g
+            (assigned_at (tac.Copy d from))
             (first_reads lives g a b (assigned_at (tac.Copy d from))
             (λ t. from == t || false) d p new rules.below) a b p d v s
             (not_before lives g a b (assigned_at (tac.Copy d from)) (λ t. from == t || false) d p new rules.below
@@ -468,7 +480,8 @@ module _ (table : ℕ → Assigned) (source : ℕ → ℕ) (used holds_word : �
             (inr (ap g one ∙ p.sourced from v ghost))
             (λ h. ap b one ∙ p.kept from v ghost (sym (ap used one) ∙ h))
         by v ghost false n u e =
-            either table source used holds_word are_sources arith here C D lives g (assigned_at (tac.Copy d from))
+            either table constants source used holds_word are_sources arith here C D lives g
+            (assigned_at (tac.Copy d from))
             (first_reads lives g a b (assigned_at (tac.Copy d from))
             (λ t. from == t || false) d p new rules.below) a b p d v s
             (not_before lives g a b (assigned_at (tac.Copy d from)) (λ t. from == t || false) d p new rules.below
@@ -479,70 +492,105 @@ module _ (table : ℕ → Assigned) (source : ℕ → ℕ) (used holds_word : �
             (ap (λ x. and_then (computed here 0 (known x) s) (λ v s. leave Next (with_temp d v b) s))
             (p.kept from v ghost (kept_read n)))
 
+  module _ (d : ℕ) (o : TacOp) (left : ℕ) (right : Option ℕ) (lives : Lives) (g a b : Temps) (s : State)
+      (rules : Rules (assigned_at (tac.Op d o left right)) (words_at (tac.Op d o left right))
+      (use_at (tac.Op d o left right)) (give_at (tac.Op d o left right))
+      (λ t. (reading_at (tac.Op d o left right) t).fresh (ahead_at lives t)))
+      (p : Known (λ t. is_one t (left ∷ one_or_none right) || (not (d == t || false) && lives.following t)) g a b)
+      (new : New g (assigned_at (tac.Op d o left right))) where
+    abbrev read_here : TempSet
+    read_here t = is_one t (left ∷ one_or_none right) || (not (d == t || false) && lives.following t)
+
+    abbrev Reads : Type 0
+    Reads = Operands lives g a b s read_here p o left right
+
+    abbrev assigns : Assignments
+    assigns = assigned_at (tac.Op d o left right)
+
+    abbrev gives_here : Reads → Result Value Cause
+    gives_here q = operated arith (s.memory here.comp) o q.one q.two
+
+    abbrev self : Assigned
+    self = ByOperator o left right
+
+    low : AtMost self (table d)
+    low = subst (λ x. AtMost x (table d)) (assigned_here d self) (rules.below d)
+
+    never : self ≡ Nowhere → ⊥
+    never n = absurd (cc n)
+
+    word_of : (q : Reads) (z : Value) → gives_here q ≡ Ok z → holds_word d ≡ true → is_word z ≡ true
+    word_of q z e h = words_computed arith (s.memory here.comp) o q.one q.two z
+        (of_this d (gives_word o) (and_first _ true (rules.words d h))) e
+
+    -- what is known to be given is
+    const : (q : Reads) (z : Value) → gives_here q ≡ Ok z → (c : Constant) → constants d ≡ Some c →
+        z ≡ constant_value c
+    const q z e c k = by (are_constants d c k) low where
+      by : ((table d ≡ ByConstant c) ⊎ Computed table constants source used holds_word d c) →
+          AtMost self (table d) → z ≡ constant_value c
+      by k (inl n) = absurd (never n)
+      by (inl is) (inr (inl h)) = let no : self ≡ ByConstant c = h ∙ is in absurd (cc no)
+      by (inl is) (inr (inr h)) = let no : ByConstant c ≡ Several = sym is ∙ h in absurd (cc no)
+      by (inr m) (inr (inl h)) =
+          let same : self ≡ ByOperator m.op m.left m.right = h ∙ m.assigned in
+          let ops : o ≡ m.op = cc same in
+          let lefts : left ≡ m.left = cc same in
+          let rights : right ≡ m.right = cc same in
+          let folds : folded constants o left right ≡ Some c =
+          (λ i. folded constants (ops i) (lefts i) (rights i)) ∙ m.gives in
+          let two : ◌≡◌ {A = Result Value Cause} (Ok z) (Ok (constant_value c)) = sym e ∙ q.folds c folds in cc two
+      by (inr m) (inr (inr h)) =
+          let no : ByOperator m.op m.left m.right ≡ Several = sym m.assigned ∙ h in absurd (cc no)
+
+    stays_there : (q : Reads) → folded constants o left right ≡ None →
+        Keeps lives g assigns (gets here d (gives_here q) a s)
+        (gone_or (keep_if true (tac.Op d o (source left) (option_map source right))) b s)
+    stays_there q none =
+        follows_along table constants source used holds_word
+        (rolled table constants source used holds_word are_sources arith here C D D (tac.Op d o (source left)
+        (option_map source right)) b s
+        ∙ q.there_is (sym (ap (λ f. unless_folded source used f (left ∷ one_or_none right)) none)
+        ∙ and_first _ true rules.uses) d)
+        (computed_related table constants source used holds_word are_sources arith here C D lives g assigns
+        (gives_here q) s
+        (λ v s. leave Next (with_temp d v a) s) (λ v s. leave Next (with_temp d v b) s)
+        (λ v e. given_both lives g a b assigns (λ t. is_one t (left ∷ one_or_none right)) d p new rules.below self
+        (assigned_here d self) never (λ u n. absurd (cc n)) v (const q v e) s (word_of q v e)))
+
+    unless_total : (q : Reads) → folded constants o left right ≡ None → (u t : Bool) → used d ≡ u →
+        is_total holds_word o left right ≡ t → Keeps lives g assigns (gets here d (gives_here q) a s)
+        (gone_or (keep_if (u || not t) (tac.Op d o (source left) (option_map source right))) b s)
+    unless_total q none true t e f = stays_there q none
+    unless_total q none false false e f = stays_there q none
+    unless_total q none false true e f = let z = q.totals f in
+        across table constants source used holds_word
+        (ap (λ r. gets here d r a s) z.1) refl
+        (given_unread lives g a b assigns (λ t. is_one t (left ∷ one_or_none right)) d p new rules.below self
+        (assigned_here d self) never (λ u n. absurd (cc n)) z.0 (const q z.0 z.1) s (word_of q z.0 z.1) e)
+
+    operator_does : (q : Reads) (f : Option Constant) → folded constants o left right ≡ f →
+        Keeps lives g assigns (gets here d (gives_here q) a s)
+        (gone_or (operator_code source used holds_word d o left right f) b s)
+    operator_does q None is = unless_total q is (used d) (is_total holds_word o left right) refl refl
+    operator_does q (Some k) is =
+        across table constants source used holds_word (ap (λ r. gets here d r a s) (q.folds k is)) refl
+        (given_either lives g a b assigns (λ t. is_one t (left ∷ one_or_none right)) d p new rules.below self
+        (assigned_here d self) never (λ u n. absurd (cc n)) (constant_value k)
+        (const q (constant_value k) (q.folds k is)) s
+        (word_of q (constant_value k) (q.folds k is)) (used d) refl (tac.Const d k) refl)
+
+    operator_kept : Keeps lives g assigns
+        (code_step arith here C (map-TacStmt _ _ (stmt_does arith here C) (tac.Op d o left right)) a s)
+        (gone_or (pass_step constants source used holds_word (map-TacStmt _ _ passes (tac.Op d o left right))) b s)
+    operator_kept =
+        let q = operands_of lives g a b s read_here p o left right
+        (λ t h. or_left (is_one t (left ∷ one_or_none right)) _ h) in
+        across table constants source used holds_word (q.here_is d) refl
+        (operator_does q (folded constants o left right) refl)
+
   op_kept : (d : ℕ) (o : TacOp) (left : ℕ) (right : Option ℕ) → KeptAt (tac.Op d o left right)
-  op_kept d o left right lives g a b s rules p new =
-      let q = operands_of lives g a b s (λ t. is_one t (left ∷ one_or_none right) || (not
-      (d == t || false) && lives.following t)) p o left right
-      (λ t h. or_left (is_one t (left ∷ one_or_none right)) _ h) in
-      across table source used holds_word (q.here_is d) refl
-      (by q (folded table o left right) refl) where
-        word_of : (v w z : Value) → operated arith (s.memory here.comp) o v w ≡ Ok z → holds_word d ≡ true →
-            is_word z ≡ true
-        word_of v w z e h = words_computed arith (s.memory here.comp) o v w z
-            (of_this d (gives_word o) (and_first _ true (rules.words d h))) e
-
-        gets_here : (v : Value) → (holds_word d ≡ true → is_word v ≡ true) → (u : Bool) → used d ≡ u →
-            (k : TacStmt-F TacStmt) →
-            code_step arith here D (map-TacStmt _ _ (stmt_does arith here D) k) b s ≡ leave Next (with_temp d v b) s →
-            Keeps lives g (assigned_at (tac.Op d o left right)) (leave Next (with_temp d v a) s) (gone_or
-            (keep_if u k) b s)
-        gets_here v = gets_either lives g a b (assigned_at (tac.Op d o left right)) (λ t. is_one t
-            (left ∷ one_or_none right)) d p new rules.below (assigned_one d) v s
-
-        stays_there : (q : Operands lives g a b s (λ t. is_one t (left ∷ one_or_none right) || (not
-            (d == t || false) && lives.following t)) p o left right) → folded table o left right ≡ None →
-            Keeps lives g (assigned_at (tac.Op d o left right)) (gets here d ((operated arith
-            (s.memory here.comp) o q.one q.two)) a s)
-            (gone_or (keep_if true (tac.Op d o (source left) (option_map source right))) b s)
-        stays_there q none =
-            follows_along table source used holds_word
-            (rolled table source used holds_word are_sources arith here C D D (tac.Op d o (source left)
-            (option_map source right)) b s
-            ∙ q.there_is (sym (ap (λ f. unless_folded source used f (left ∷ one_or_none right)) none)
-            ∙ and_first _ true rules.uses) d)
-            (computed_related table source used holds_word are_sources arith here C D lives g (assigned_at
-            (tac.Op d o left right)) ((operated arith (s.memory here.comp) o q.one q.two)) s
-            (λ v s. leave Next (with_temp d v a) s) (λ v s. leave Next (with_temp d v b) s)
-            (λ v e. gets_both lives g a b (assigned_at (tac.Op d o left right)) (λ t. is_one t
-            (left ∷ one_or_none right)) d p new rules.below (assigned_one d) v s
-            (word_of q.one q.two v e)))
-
-        unless_total : (q : Operands lives g a b s (λ t. is_one t (left ∷ one_or_none right) || (not
-            (d == t || false) && lives.following t)) p o left right) → folded table o left right ≡ None → (u t : Bool) →
-            used d ≡ u →
-            is_total holds_word o left right ≡ t → Keeps lives g (assigned_at (tac.Op d o left right)) (gets here d
-            ((operated arith (s.memory here.comp) o q.one q.two)) a s)
-            (gone_or (keep_if (u || not t) (tac.Op d o (source left) (option_map source right))) b s)
-        unless_total q none true t e f = stays_there q none
-        unless_total q none false false e f = stays_there q none
-        unless_total q none false true e f = let z = q.totals f in
-            across table source used holds_word
-            (ap (λ r. gets here d r a s) z.1) refl
-            (gets_unread lives g a b (assigned_at (tac.Op d o left right)) (λ t. is_one t
-            (left ∷ one_or_none right)) d p new rules.below (assigned_one d) z.0 s
-            (word_of q.one q.two z.0 z.1) e)
-
-        by : (q : Operands lives g a b s (λ t. is_one t (left ∷ one_or_none right) || (not
-            (d == t || false) && lives.following t)) p o left right)
-            (f : Option Constant) → folded table o left right ≡ f →
-            Keeps lives g (assigned_at (tac.Op d o left right)) (gets here d ((operated arith
-            (s.memory here.comp) o q.one q.two)) a s)
-            (gone_or (operator_code source used holds_word d o left right f) b s)
-        by q None is = unless_total q is (used d) (is_total holds_word o left right) refl refl
-        by q (Some k) is =
-            across table source used holds_word (ap (λ r. gets here d r a s) (q.folds k is)) refl
-            (gets_here (constant_value k) (word_of q.one q.two (constant_value k) (q.folds k is)) (used d) refl
-            (tac.Const d k) refl)
+  op_kept = operator_kept
 
   -- places
   place_kept : (k : TacStmt-F TacStmt) (d : ℕ) (v : Value) → (lives : Lives) (g a b : Temps) (s : State) →
@@ -569,15 +617,17 @@ module _ (table : ℕ → Assigned) (source : ℕ → ℕ) (used holds_word : �
 
   load_kept : (d place : ℕ) (pointer : Bool) → KeptAt (tac.Load d place pointer)
   load_kept d place pointer lives g a b s rules p new =
-      follows_along table source used holds_word
-      (rolled table source used holds_word are_sources arith here C D D (tac.Load d (source place) pointer) b s)
-      (read_then table source used holds_word are_sources arith here C D lives g (assigned_at
+      follows_along table constants source used holds_word
+      (rolled table constants source used holds_word are_sources arith here C D D
+      (tac.Load d (source place) pointer) b s)
+      (read_then table constants source used holds_word are_sources arith here C D lives g (assigned_at
       (tac.Load d place pointer))
       (λ t. (place == t || false) || (not (d == t || false) && lives.following t)) a b p place
       (one_read place _, and_first (used (source place)) true (and_first _ true rules.uses)) s
       (λ q s. gets here d (load (s.memory here.comp) pointer q) a s)
       (λ q s. gets here d (load (s.memory here.comp) pointer q) b s)
-      (λ q ghost. computed_related table source used holds_word are_sources arith here C D lives g (assigned_at
+      (λ q ghost. computed_related table constants source used holds_word are_sources arith here C D lives g
+      (assigned_at
       (tac.Load d place pointer))
       (load (s.memory here.comp) pointer q) s (λ v s. leave Next (with_temp d v a) s)
       (λ v s. leave Next (with_temp d v b) s)
@@ -596,18 +646,21 @@ module _ (table : ℕ → Assigned) (source : ℕ → ℕ) (used holds_word : �
     reading_only t = reads t || (true && lives.following t)
 
     goes_on : (s : State) → Keeps lives g assignments (leave Next a s) (leave Next b s)
-    goes_on s = stays table source used holds_word are_sources arith here C D lives g assignments reading_only a b p s
+    goes_on s = stays table constants source used holds_word are_sources arith here C D lives g assignments
+        reading_only a b p s
         (λ t on. live_behind (reads t) (lives.following t) on)
 
     stored_kept : (q v : Value) (s : State) → Keeps lives g assignments (stored here q v 0 a s) (stored here q v 0 b s)
-    stored_kept q v s = computed_related table source used holds_word are_sources arith here C D lives g assignments
+    stored_kept q v s = computed_related table constants source used holds_word are_sources arith here C D lives g
+        assignments
         {V = Blocks}
         (store (s.memory here.comp) q v) s (λ blocks s. leave Next a (with_memory here.comp blocks s))
         (λ blocks s. leave Next b (with_memory here.comp blocks s))
         (λ blocks e. goes_on (with_memory here.comp blocks s))
 
     released_kept : (v : Value) (s : State) → Keeps lives g assignments (released here v 0 a s) (released here v 0 b s)
-    released_kept v s = computed_related table source used holds_word are_sources arith here C D lives g assignments
+    released_kept v s = computed_related table constants source used holds_word are_sources arith here C D lives g
+        assignments
         {V = Blocks} (freed (s.memory here.comp) v) s (λ blocks s. leave Next a (with_memory here.comp blocks s))
         (λ blocks s. leave Next b (with_memory here.comp blocks s))
         (λ blocks e. goes_on (with_memory here.comp blocks s))
@@ -615,14 +668,16 @@ module _ (table : ℕ → Assigned) (source : ℕ → ℕ) (used holds_word : �
   store_kept : (place value : ℕ) → KeptAt (tac.Store place value)
   store_kept place value lives g a b s rules p new =
       let uses = and_first (all_used source used (place ∷ value ∷ [])) true rules.uses in
-      follows_along table source used holds_word
-      (rolled table source used holds_word are_sources arith here C D D (tac.Store (source place) (source value)) b s)
-      (read_then table source used holds_word are_sources arith here C D lives g (assigned_at (tac.Store place value))
+      follows_along table constants source used holds_word
+      (rolled table constants source used holds_word are_sources arith here C D D
+      (tac.Store (source place) (source value)) b s)
+      (read_then table constants source used holds_word are_sources arith here C D lives g
+      (assigned_at (tac.Store place value))
       (λ t. is_one t (place ∷ value ∷ []) || (true && lives.following t)) a b p place
       (or_left _ _ (or_left (place == place) _ (eq-eqb place place refl)), and_first (used (source place)) _ uses) s
       (λ q s. and_then (read here value a s) (λ v s. stored here q v 0 a s))
       (λ q s. and_then (read here (source value) b s) (λ v s. stored here q v 0 b s))
-      (λ q ghost. read_then table source used holds_word are_sources arith here C D lives g (assigned_at
+      (λ q ghost. read_then table constants source used holds_word are_sources arith here C D lives g (assigned_at
       (tac.Store place value))
       (λ t. is_one t (place ∷ value ∷ []) || (true && lives.following t)) a b p value (
         or_left _ _ (or_right (place == value) _ (or_left (value == value) _ (eq-eqb value value refl))),
@@ -635,14 +690,16 @@ module _ (table : ℕ → Assigned) (source : ℕ → ℕ) (used holds_word : �
   -- THE HEAP
   alloc_kept : (d count words : ℕ) → KeptAt (tac.Alloc d count words)
   alloc_kept d count words lives g a b s rules p new =
-      follows_along table source used holds_word
-      (rolled table source used holds_word are_sources arith here C D D (tac.Alloc d (source count) words) b s)
-      (read_then table source used holds_word are_sources arith here C D lives g (assigned_at (tac.Alloc d count words))
+      follows_along table constants source used holds_word
+      (rolled table constants source used holds_word are_sources arith here C D D
+      (tac.Alloc d (source count) words) b s)
+      (read_then table constants source used holds_word are_sources arith here C D lives g
+      (assigned_at (tac.Alloc d count words))
       (λ t. (count == t || false) || (not (d == t || false) && lives.following t)) a b p count
       (one_read count _, and_first (used (source count)) true (and_first _ true rules.uses)) s
       (λ v s. and_then (elements_allocated here v words 0 s) (λ q s. leave Next (with_temp d q a) s))
       (λ v s. and_then (elements_allocated here v words 0 s) (λ q s. leave Next (with_temp d q b) s))
-      (λ v ghost. piece_related table source used holds_word are_sources arith here C D lives g
+      (λ v ghost. piece_related table constants source used holds_word are_sources arith here C D lives g
       (assigned_at (tac.Alloc d count words)) (elements_allocated here v words 0 s)
       (λ q s. leave Next (with_temp d q a) s) (λ q s. leave Next (with_temp d q b) s)
       (λ q t. gets_both lives g a b (assigned_at (tac.Alloc d count words))
@@ -651,9 +708,10 @@ module _ (table : ℕ → Assigned) (source : ℕ → ℕ) (used holds_word : �
 
   free_kept : (pointer : ℕ) → KeptAt (tac.Free pointer)
   free_kept pointer lives g a b s rules p new =
-      follows_along table source used holds_word
-      (rolled table source used holds_word are_sources arith here C D D (tac.Free (source pointer)) b s)
-      (read_then table source used holds_word are_sources arith here C D lives g (assigned_at (tac.Free pointer))
+      follows_along table constants source used holds_word
+      (rolled table constants source used holds_word are_sources arith here C D D (tac.Free (source pointer)) b s)
+      (read_then table constants source used holds_word are_sources arith here C D lives g
+      (assigned_at (tac.Free pointer))
       (λ t. is_one t (pointer ∷ []) || (true && lives.following t)) a b p pointer
       (one_read pointer _, and_first (used (source pointer)) true (and_first _ true rules.uses)) s
       (λ v s. released here v 0 a s) (λ v s. released here v 0 b s)
@@ -670,15 +728,15 @@ module _ (table : ℕ → Assigned) (source : ℕ → ℕ) (used holds_word : �
       Keeps lives g assignments (call_does here C dest target args a s) (call_does here D dest target
       (map source args) b s)
   call_kept dest target args lives g a b s assignments low is p new assigned word uses =
-      let r = reads_all table source used holds_word are_sources arith here C D lives g assignments
+      let r = reads_all table constants source used holds_word are_sources arith here C D lives g assignments
       (λ t. is_one t args || (not (is_one t (one_or_none dest)) && lives.following t)) a b p args
       (λ t h. or_left (is_one t args) _ h) uses s in
-      across table source used holds_word
+      across table constants source used holds_word
       (ap (λ o. and_then o (λ vs s. and_then (C here.comp target vs s)
       (λ result s. leave Next (received dest result a) s))) r.here_is)
       (ap (λ o. and_then o (λ vs s. and_then (D here.comp target vs s)
       (λ result s. leave Next (received dest result b) s))) r.there_is)
-      (pieces_then table source used holds_word are_sources arith here C D lives g assignments
+      (pieces_then table constants source used holds_word are_sources arith here C D lives g assignments
       (C here.comp target r.values s)
       (D here.comp target r.values s) (λ result s. leave Next (received dest result a) s)
       (λ result s. leave Next (received dest result b) s) (calls target r.values s)
@@ -698,8 +756,8 @@ module _ (table : ℕ → Assigned) (source : ℕ → ℕ) (used holds_word : �
 
   own_kept : (dest : Option ℕ) (function : ℕ) (args : List ℕ) → KeptAt (tac.CallOwn dest function args)
   own_kept dest function args lives g a b s rules p new =
-      follows_along table source used holds_word
-      (rolled table source used holds_word are_sources arith here C D D (tac.CallOwn dest function
+      follows_along table constants source used holds_word
+      (rolled table constants source used holds_word are_sources arith here C D D (tac.CallOwn dest function
       (map source args)) b s)
       (call_kept dest (Own function) args lives g a b s (assigned_at (tac.CallOwn dest function args)) rules.below
       (λ d e. subst (λ o. (if is_one d (one_or_none o) then Otherwise else Nowhere) ≡ Otherwise) (sym e)
@@ -713,8 +771,8 @@ module _ (table : ℕ → Assigned) (source : ℕ → ℕ) (used holds_word : �
 
   cross_kept : (dest : Option ℕ) (comp index : ℕ) (args : List ℕ) → KeptAt (tac.CallCross dest comp index args)
   cross_kept dest comp index args lives g a b s rules p new =
-      follows_along table source used holds_word
-      (rolled table source used holds_word are_sources arith here C D D (tac.CallCross dest comp index
+      follows_along table constants source used holds_word
+      (rolled table constants source used holds_word are_sources arith here C D D (tac.CallCross dest comp index
       (map source args)) b s)
       (call_kept dest (Cross comp index) args lives g a b s (assigned_at
       (tac.CallCross dest comp index args)) rules.below
@@ -729,8 +787,8 @@ module _ (table : ℕ → Assigned) (source : ℕ → ℕ) (used holds_word : �
 
   input_kept : (dest : Option ℕ) → KeptAt (tac.Input dest)
   input_kept dest lives g a b s rules p new =
-      follows_along table source used holds_word
-      (rolled table source used holds_word are_sources arith here C D D (tac.Input dest) b s)
+      follows_along table constants source used holds_word
+      (rolled table constants source used holds_word are_sources arith here C D D (tac.Input dest) b s)
       (call_kept dest Input [] lives g a b s (assigned_at (tac.Input dest)) rules.below
       (λ d e. subst (λ o. (if is_one d (one_or_none o) then Otherwise else Nowhere) ≡ Otherwise) (sym e)
       (assigned_one d)) p new
@@ -742,21 +800,22 @@ module _ (table : ℕ → Assigned) (source : ℕ → ℕ) (used holds_word : �
 
   output_kept : (value : ℕ) → KeptAt (tac.Output value)
   output_kept value lives g a b s rules p new =
-      follows_along table source used holds_word
-      (rolled table source used holds_word are_sources arith here C D D (tac.Output (source value)) b s)
+      follows_along table constants source used holds_word
+      (rolled table constants source used holds_word are_sources arith here C D D (tac.Output (source value)) b s)
       (call_kept None Output (value ∷ []) lives g a b s (assigned_at (tac.Output value)) rules.below
       (λ d e. absurd (cc e)) p new (λ d e. absurd (cc e)) (λ d e. absurd (cc e))
       (and_first (all_used source used (value ∷ [])) true rules.uses))
 
   return_kept : (value : Option ℕ) → KeptAt (tac.Return value)
   return_kept None lives g a b s rules p new =
-      follows_along table source used holds_word
-      (rolled table source used holds_word are_sources arith here C D D (tac.Return None) b s)
+      follows_along table constants source used holds_word
+      (rolled table constants source used holds_word are_sources arith here C D D (tac.Return None) b s)
       (record { related = record { temps = b; is = refl; lands = tt } })
   return_kept (Some t) lives g a b s rules p new =
-      follows_along table source used holds_word
-      (rolled table source used holds_word are_sources arith here C D D (tac.Return (Some (source t))) b s)
-      (read_then table source used holds_word are_sources arith here C D lives g (assigned_at (tac.Return (Some t)))
+      follows_along table constants source used holds_word
+      (rolled table constants source used holds_word are_sources arith here C D D (tac.Return (Some (source t))) b s)
+      (read_then table constants source used holds_word are_sources arith here C D lives g
+      (assigned_at (tac.Return (Some t)))
       (λ u. is_one u (t ∷ [])) a b p t (
         or_left (t == t) false (eq-eqb t t refl),
         and_first (used (source t)) true (and_first _ true rules.uses),
@@ -767,16 +826,16 @@ module _ (table : ℕ → Assigned) (source : ℕ → ℕ) (used holds_word : �
   -- CONTROL
   break_kept : KeptAt tac.Break
   break_kept lives g a b s rules p new =
-      follows_along table source used holds_word
-      (rolled table source used holds_word are_sources arith here C D D tac.Break b s)
+      follows_along table constants source used holds_word
+      (rolled table constants source used holds_word are_sources arith here C D D tac.Break b s)
       (record {
         related = record { temps = b; is = refl; lands = record { after = g; agree = p; adds = λ t n e. e } };
       })
 
   continue_kept : KeptAt tac.Continue
   continue_kept lives g a b s rules p new =
-      follows_along table source used holds_word
-      (rolled table source used holds_word are_sources arith here C D D tac.Continue b s)
+      follows_along table constants source used holds_word
+      (rolled table constants source used holds_word are_sources arith here C D D tac.Continue b s)
       (record {
         related = record { temps = b; is = refl; lands = record { after = g; agree = p; adds = λ t n e. e } };
       })
@@ -789,17 +848,18 @@ module _ (table : ℕ → Assigned) (source : ℕ → ℕ) (used holds_word : �
 
   if_kept : (cond : ℕ) (x y : List TacStmt) → Each Kept x → Each Kept y → KeptAt (tac.If cond x y)
   if_kept cond x y hx hy lives g a b s rules p new =
-      follows_along table source used holds_word
-      (rolled table source used holds_word are_sources arith here C D D
+      follows_along table constants source used holds_word
+      (rolled table constants source used holds_word are_sources arith here C D D
       (tac.If (source cond) (present (map passes x)) (present (map passes y))) b s)
-      (read_then table source used holds_word are_sources arith here C D lives g (assigned_at (tac.If cond x y))
+      (read_then table constants source used holds_word are_sources arith here C D lives g
+      (assigned_at (tac.If cond x y))
       (λ t. cond == t || (row_reads x lives t || row_reads y lives t)) a b p cond (
         or_left (cond == cond) _ (eq-eqb cond cond refl),
         and_first (used (source cond)) true (and_first (all_used source used (cond ∷ [])) _ rules.uses),
       ) s
       (λ v s. choose v (row_does x a s) (row_does y a s)) (λ v s. choose v (row_done x b s) (row_done y b s))
       (λ v ghost. chosen lives g (assigned_at (tac.If cond x y)) (is_true v) _ _ _ _
-      (follows_within table source used holds_word lives g (assigned_at (tac.If cond x y)) (row_assigned x)
+      (follows_within table constants source used holds_word lives g (assigned_at (tac.If cond x y)) (row_assigned x)
       (row_does x a s) (row_done x b s)
       (λ t n. (never_both (row_assigned x t) (row_assigned y t) n).0)
       (row_kept x hx lives g a b s (record {
@@ -808,11 +868,11 @@ module _ (table : ℕ → Assigned) (source : ℕ → ℕ) (used holds_word : �
         uses = and_first (all_true (map use_test x)) _ inner_use;
         takes = and_first (all_true (map give_test x)) _ inner_give;
         fresh = λ t. and_first (row_fresh (map (reading t) x) (ahead_at lives t)) _ (rules.fresh t);
-      }) (less table source used holds_word (λ t. cond == t || (row_reads x lives t || row_reads y lives t))
+      }) (less table constants source used holds_word (λ t. cond == t || (row_reads x lives t || row_reads y lives t))
       (row_reads x lives) g
       a b (λ t on. or_right (cond == t) _ (or_left (row_reads x lives t) _ on)) p)
       (λ t once. side t (λ n. (never_both (row_assigned x t) (row_assigned y t) n).0) (new t once))))
-      (follows_within table source used holds_word lives g (assigned_at (tac.If cond x y)) (row_assigned y)
+      (follows_within table constants source used holds_word lives g (assigned_at (tac.If cond x y)) (row_assigned y)
       (row_does y a s) (row_done y b s)
       (λ t n. (never_both (row_assigned x t) (row_assigned y t) n).1)
       (row_kept y hy lives g a b s (record {
@@ -822,7 +882,7 @@ module _ (table : ℕ → Assigned) (source : ℕ → ℕ) (used holds_word : �
         uses = and_first (all_true (map use_test y)) true (and_rest (all_true (map use_test x)) _ inner_use);
         takes = and_first (all_true (map give_test y)) true (and_rest (all_true (map give_test x)) _ inner_give);
         fresh = λ t. and_rest (row_fresh (map (reading t) x) (ahead_at lives t)) _ (rules.fresh t);
-      }) (less table source used holds_word (λ t. cond == t || (row_reads x lives t || row_reads y lives t))
+      }) (less table constants source used holds_word (λ t. cond == t || (row_reads x lives t || row_reads y lives t))
       (row_reads y lives) g
       a b (λ t on. or_right (cond == t) _ (or_right (row_reads x lives t) _ on)) p)
       (λ t once. side t (λ n. (never_both (row_assigned x t) (row_assigned y t) n).1) (new t once)))))) where
@@ -852,10 +912,10 @@ module _ (table : ℕ → Assigned) (source : ℕ → ℕ) (used holds_word : �
 
   loop_kept : (x y z : List TacStmt) → Each Kept x → Each Kept y → Each Kept z → KeptAt (tac.Loop x y z)
   loop_kept x y z hx hy hz lives g a b s rules p new =
-      follows_along table source used holds_word
-      (rolled table source used holds_word are_sources arith here C D D
+      follows_along table constants source used holds_word
+      (rolled table constants source used holds_word are_sources arith here C D D
       (tac.Loop (present (map passes x)) (present (map passes y)) (present (map passes z))) b s)
-      (follows_rounds table source used holds_word lives g (assigned_at (tac.Loop x y z)) (row_assigned x)
+      (follows_rounds table constants source used holds_word lives g (assigned_at (tac.Loop x y z)) (row_assigned x)
       (row_assigned y) (row_assigned z)
       (λ t n. (never_both (row_assigned x t) _ n).0)
       (λ t n. (never_both (row_assigned y t) (row_assigned z t) (never_both (row_assigned x t) _ n).1).0)
@@ -896,7 +956,7 @@ module _ (table : ℕ → Assigned) (source : ℕ → ℕ) (used holds_word : �
             ((t : ℕ) → not (row_reads stmts (part_lives lives nothing) t) ≡ true) →
             Keeps (part_lives lives nothing) no_temps (row_assigned stmts) (row_does stmts a s) (row_done stmts b s)
         part stmts h a b s rules none = row_kept stmts h (part_lives lives nothing) no_temps a b s rules
-            (begun table source used holds_word (row_reads stmts (part_lives lives nothing)) a b
+            (begun table constants source used holds_word (row_reads stmts (part_lives lives nothing)) a b
             (λ t on. not_true (row_reads stmts (part_lives lives nothing) t) (none t) on))
             (λ t once. inr refl)
 

@@ -6,6 +6,7 @@ use Rattle.std.proofs.Common.{◌+◌, ◌<◌, ◌==◌, ◌||◌, ◌∙◌}
 use Rattle.std.proofs.Common.{◌∷◌, ◌≡◌, ◌≤◌, ◌⊎◌}
 use Rattle.sc_base.proofs.Bools.{and_first}
 use Rattle.sc_tac.specs.Prelude.{everywhere}
+use Rattle.sc_tac.specs.declared.stmt.Constant.{Constant}
 use Rattle.sc_tac.specs.declared.stmt.TacStmt.{TacStmt}
 use Rattle.sc_opt.specs.Pass.{copies_one, assigned_in}
 use Rattle.sc_opt.specs.Pass.{is_kept, is_once, source_by, copy_source, copy_sources}
@@ -13,29 +14,31 @@ use Rattle.sc_opt.proofs.Joined.{not_same}
 use Rattle.sc_opt.proofs.Found.{Found, found_in}
 use Rattle.sc_opt.proofs.Agreement.{AreSources, Moved}
 use Rattle.sc_opt.specs.declared.facts.Assigned.{Assigned}
-use Rattle.sc_opt.specs.declared.facts.Assigned.TheVariants.{ByConstant, ByCopy, Nowhere, Otherwise, Several}
+use Rattle.sc_opt.specs.declared.facts.Assigned.TheVariants.{ByConstant, ByCopy, ByOperator, Nowhere, Otherwise}
+use Rattle.sc_opt.specs.declared.facts.Assigned.TheVariants.{Several}
 
 not_true : (b : Bool) → not b ≡ true → b ≡ false
 not_true true h = let no : false ≡ true = h in absurd (cc no)
 not_true false h = refl
 
 -- a copy that is left isn't one of two with the same source
-left_apart : (table : ℕ → Assigned) (source : ℕ → ℕ) (used holds_word : ℕ → Bool) (t u : ℕ) (body : List TacStmt) →
-    everywhere (is_kept table source used holds_word) body ≡ true → assigned_in t body ≡ ByCopy u →
+left_apart : (constants : ℕ → Option Constant) (source : ℕ → ℕ) (used holds_word : ℕ → Bool) (t u : ℕ)
+    (body : List TacStmt) →
+    everywhere (is_kept constants source used holds_word) body ≡ true → assigned_in t body ≡ ByCopy u →
     (source t == source u) ≡ false
-left_apart table source used holds_word t u body all is =
-    let test = is_kept table source used holds_word in
+left_apart constants source used holds_word t u body all is =
+    let test = is_kept constants source used holds_word in
     not_true (source t == source u) (and_first (not (source t == source u)) _
     (subst (Found test t) is (found_in test t body all)))
 
 -- NO COPY BETWEEN TWO THAT ARE ASSIGNED IN ONE PLACE EACH
-module _ (table : ℕ → Assigned) (used holds_word : ℕ → Bool) (sourced : AreSources table
-    (copy_source table) used holds_word) (body : List TacStmt)
+module _ (table : ℕ → Assigned) (constants : ℕ → Option Constant) (used holds_word : ℕ → Bool)
+    (sourced : AreSources table (copy_source table) used holds_word) (body : List TacStmt)
     (table_is : (t : ℕ) → table t ≡ assigned_in t body)
-    (all : everywhere (is_kept table (copy_source table) used holds_word) body ≡ true) where
+    (all : everywhere (is_kept constants (copy_source table) used holds_word) body ≡ true) where
   apart : {B : Type 0} (t u : ℕ) → table t ≡ ByCopy u → copy_source table t ≡ copy_source table u → B
   apart t u is same = not_same (copy_source table t) (copy_source table u)
-      (left_apart table (copy_source table) used holds_word t u body all (sym (table_is t) ∙ is)) same
+      (left_apart constants (copy_source table) used holds_word t u body all (sym (table_is t) ∙ is)) same
 
   -- so each is read where it is
   pub at_home : (t : ℕ) → copy_source table t ≡ t
@@ -88,6 +91,7 @@ module _ (table : ℕ → Assigned) (used holds_word : ℕ → Bool) (sourced : 
         by true down = apart t u is (start ∙ ap (λ b. if b then copy_sources table t u else
             (if copies_one table (table u) then t else u)) down ∙ lower t u (ltb-true u t down))
         by false up = upward up (copies_one table (table u)) refl
+      higher t (ByOperator o left right) is h = absurd (cc h)
       higher t Otherwise is h = absurd (cc h)
       higher t Several is h = absurd (cc h)
 

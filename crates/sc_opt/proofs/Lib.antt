@@ -4,6 +4,7 @@ pub mod Related
 pub mod Values
 pub mod Steps
 pub mod Kept
+pub mod AllKnown
 pub mod Copies
 pub mod Fitting
 pub mod UsedReads
@@ -27,11 +28,13 @@ pub mod FunctionRules
 pub mod ProgramRules
 pub mod Passes
 pub mod Promises
+pub mod Chaining
 pub mod Unchanged
 pub mod Noting
 pub mod Marking
 pub mod Telling
 pub mod Sourcing
+pub mod Knowing
 pub mod Making
 pub mod Stepping
 pub mod Made

@@ -12,7 +12,7 @@ use Rattle.sc_tac.specs.declared.stmt.TacStmt.TheOpen as tac
 use Rattle.sc_tac.specs.declared.stmt.TacStmt.TheVariants as emit
 use Rattle.sc_opt.proofs.Stepping.{parted_of}
 use Rattle.sc_opt.specs.Pass.{folded, is_total, keep_if, operator_code, pass_step, present}
-use Rattle.sc_opt.specs.Tables.{assigned_at, copy_by, holds_word_at, keep_when, operator_by, operator_from, pass_by}
+use Rattle.sc_opt.specs.Tables.{constant_at, copy_by, holds_word_at, keep_when, operator_by, operator_from, pass_by}
 use Rattle.sc_opt.specs.Tables.{passed_by, source_at, used_at}
 use Rattle.sc_opt.specs.declared.pass.Tables.{Tables}
 
@@ -27,7 +27,7 @@ module _ (tables : Tables) where
   holds_word = holds_word_at tables.origins.facts
 
   abbrev step : TacStmt-F (Option TacStmt) → Option TacStmt
-  step = pass_step (assigned_at tables.origins.facts) source used holds_word
+  step = pass_step (constant_at tables.origins.constants) source used holds_word
 
   -- a statement by its layer
   by_layer : (stmt : TacStmt) (layer : TacStmt-F TacStmt) → roll-TacStmt layer ≡ stmt →
@@ -58,7 +58,8 @@ module _ (tables : Tables) where
 
   pub op_made : (stmt : TacStmt) (d : ℕ) (o : TacOp) (left : ℕ) (right : Option ℕ) → stmt ≡ emit.Op d o left right →
       operator_by tables d o left right ≡ pass_by tables stmt
-  op_made stmt d o left right is = operator_made d o left right (folded (assigned_at tables.origins.facts) o left right)
+  op_made stmt d o left right is = operator_made d o left right
+      (folded (constant_at tables.origins.constants) o left right)
       ∙ by_layer stmt (tac.Op d o left right) (emit.rolls-Op d o left right ∙ sym is)
 
   pub object_made : (stmt : TacStmt) (d object : ℕ) → stmt ≡ emit.ObjectPlace d object →

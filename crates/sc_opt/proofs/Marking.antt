@@ -4,6 +4,7 @@ use Rattle.std.proofs.Common.{slice_get}
 use Rattle.std.proofs.Common.{drop, get_or, length, subst, ◌+◌, ◌<◌, ◌≤◌}
 use Rattle.std.proofs.Common.{sym, true, ℕ, ◌&&◌, ◌==◌, ◌||◌, ◌∙◌, ◌∷◌, ◌≡◌}
 use Rattle.sc_tac.specs.Prelude.{one_or_none}
+use Rattle.sc_tac.specs.declared.stmt.Constant.{Constant}
 use Rattle.sc_tac.specs.declared.stmt.TacOp.{TacOp}
 use Rattle.sc_tac.specs.declared.stmt.TacStmt.{TacStmt, TacStmt-F, fold-roll-TacStmt, map-TacStmt}
 use Rattle.sc_tac.specs.declared.stmt.TacStmt.{roll-TacStmt}
@@ -12,7 +13,6 @@ use Rattle.sc_tac.specs.declared.stmt.TacStmt.TheVariants as emit
 use Rattle.sc_opt.proofs.Stepping.{ended_of, parted_of}
 use Rattle.sc_opt.specs.Pass.{folded, is_read, reads_some, reads_unless, reads_within}
 use Rattle.sc_opt.specs.Tables.{MarksAll, MarksStmt, marked, reads_stmt}
-use Rattle.sc_opt.specs.declared.facts.Assigned.{Assigned}
 
 or_false : (a : Bool) → (a || false) ≡ a
 or_false true = refl
@@ -24,12 +24,12 @@ marked_twice true true (Some u) = refl
 marked_twice true false known = refl
 marked_twice false b known = refl
 
-module _ (table : ℕ → Assigned) (source : ℕ → ℕ) where
+module _ (constants : ℕ → Option Constant) (source : ℕ → ℕ) where
   abbrev Marks : TacStmt → List Bool → List Bool → Type 0
-  Marks = MarksStmt table source
+  Marks = MarksStmt constants source
 
   abbrev MarksRow : List TacStmt → List Bool → List Bool → Type 0
-  MarksRow = MarksAll table source
+  MarksRow = MarksAll constants source
 
   -- STATEMENTS IN ORDER
   pub marks_none : (marks : List Bool) → MarksRow [] marks marks
@@ -38,8 +38,8 @@ module _ (table : ℕ → Assigned) (source : ℕ → ℕ) where
   pub marks_next : (stmt : TacStmt) (rest : List TacStmt) (a b c : List Bool) → Marks stmt a b → MarksRow rest b c →
       MarksRow (stmt ∷ rest) a c
   marks_next stmt rest a b c first more = record {
-    at = λ x. more.at x ∙ ap (marked (is_read table source rest x)) (first.at x)
-        ∙ marked_twice (reads_stmt table source x stmt) (is_read table source rest x) (slice_get a x);
+    at = λ x. more.at x ∙ ap (marked (is_read constants source rest x)) (first.at x)
+        ∙ marked_twice (reads_stmt constants source x stmt) (is_read constants source rest x) (slice_get a x);
   }
 
   -- one more of a list
@@ -57,17 +57,18 @@ module _ (table : ℕ → Assigned) (source : ℕ → ℕ) where
   -- EACH KIND
   by_layer : (stmt : TacStmt) (layer : TacStmt-F TacStmt) (a b : List Bool) → roll-TacStmt layer ≡ stmt →
       ((x : ℕ) → slice_get b x ≡ marked
-      (reads_within table source x (map-TacStmt _ _ (reads_stmt table source x) layer)) (slice_get a x)) →
+      (reads_within constants source x (map-TacStmt _ _ (reads_stmt constants source x) layer)) (slice_get a x)) →
       Marks stmt a b
   by_layer stmt layer a b is h = record {
     at = λ x. h x ∙ ap (λ r. marked r (slice_get a x))
-        (sym (fold-roll-TacStmt Bool (reads_within table source x) layer) ∙ ap (reads_stmt table source x) is);
+        (sym (fold-roll-TacStmt Bool (reads_within constants source x) layer) ∙ ap (reads_stmt constants source x) is);
   }
 
   -- one that reads so, without others inside
   plain_marked : (stmt : TacStmt) (layer : TacStmt-F TacStmt) (a b : List Bool) → roll-TacStmt layer ≡ stmt →
       (reads : ℕ → Bool) →
-      ((x : ℕ) → reads_within table source x (map-TacStmt _ _ (reads_stmt table source x) layer) ≡ (reads x || false)) →
+      ((x : ℕ) → reads_within constants source x (map-TacStmt _ _ (reads_stmt constants source x) layer) ≡
+      (reads x || false)) →
       ((x : ℕ) → slice_get b x ≡ marked (reads x) (slice_get a x)) → Marks stmt a b
   plain_marked stmt layer a b is reads same h = by_layer stmt layer a b is (λ x. h x
       ∙ ap (λ r. marked r (slice_get a x)) (sym (or_false (reads x)) ∙ sym (same x)))
@@ -88,11 +89,12 @@ module _ (table : ℕ → Assigned) (source : ℕ → ℕ) where
         (λ x. not (source d == source from) && source from == x) (λ x. refl) h
 
     pub op_marked : (d : ℕ) (o : TacOp) (left : ℕ) (right : Option ℕ) → stmt ≡ emit.Op d o left right →
-        ((x : ℕ) → slice_get b x ≡ marked (reads_unless source (folded table o left right) x (left ∷ one_or_none right))
+        ((x : ℕ) → slice_get b x ≡ marked (reads_unless source (folded constants o left right) x
+        (left ∷ one_or_none right))
         (slice_get a x)) → Marks stmt a b
     op_marked d o left right is h = plain_marked stmt (tac.Op d o left right) a b
         (emit.rolls-Op d o left right ∙ sym is)
-        (λ x. reads_unless source (folded table o left right) x (left ∷ one_or_none right)) (λ x. refl) h
+        (λ x. reads_unless source (folded constants o left right) x (left ∷ one_or_none right)) (λ x. refl) h
 
     pub load_marked : (d place : ℕ) (pointer : Bool) → stmt ≡ emit.Load d place pointer → ReadsOne place →
         Marks stmt a b
@@ -136,8 +138,8 @@ module _ (table : ℕ → Assigned) (source : ℕ → ℕ) where
       Marks stmt a d
   if_marked stmt a b c d cond p q is h k l =
       by_layer stmt (tac.If cond p q) a d (emit.rolls-If cond p q ∙ sym is) (λ x.
-      let r = is_read table source p x in
-      let s = is_read table source q x in
+      let r = is_read constants source p x in
+      let s = is_read constants source q x in
       l.at x ∙ ap (marked s) (k.at x ∙ ap (marked r) (h x))
       ∙ marked_twice r s (marked (source cond == x) (slice_get a x))
       ∙ marked_twice (source cond == x) (r || s) (slice_get a x)
@@ -147,9 +149,9 @@ module _ (table : ℕ → Assigned) (source : ℕ → ℕ) where
       MarksRow p a b → MarksRow q b c → MarksRow r c d → Marks stmt a d
   loop_marked stmt a b c d p q r is h k l =
       by_layer stmt (tac.Loop p q r) a d (emit.rolls-Loop p q r ∙ sym is) (λ x.
-      let u = is_read table source p x in
-      let v = is_read table source q x in
-      let w = is_read table source r x in
+      let u = is_read constants source p x in
+      let v = is_read constants source q x in
+      let w = is_read constants source r x in
       l.at x ∙ ap (marked w) (k.at x ∙ ap (marked v) (h.at x))
       ∙ marked_twice v w (marked u (slice_get a x))
       ∙ marked_twice u (v || w) (slice_get a x)
@@ -157,7 +159,7 @@ module _ (table : ℕ → Assigned) (source : ℕ → ℕ) where
 
   -- what reads nothing
   pub nothing_marked : (stmt : TacStmt) (layer : TacStmt-F TacStmt) (a : List Bool) → roll-TacStmt layer ≡ stmt →
-      ((x : ℕ) → reads_within table source x (map-TacStmt _ _ (reads_stmt table source x) layer) ≡ false) →
+      ((x : ℕ) → reads_within constants source x (map-TacStmt _ _ (reads_stmt constants source x) layer) ≡ false) →
       Marks stmt a a
   nothing_marked stmt layer a is none =
       by_layer stmt layer a a is (λ x. ap (λ r. marked r (slice_get a x)) (sym (none x)))

@@ -16,7 +16,8 @@ use Rattle.sc_opt.proofs.Stepping.{ended_of, parted_of, set_elsewhere, set_here}
 use Rattle.sc_opt.specs.Pass.{assigned, assigned_in, assigned_step, assigns_words, gives_word, is_word_constant, joined}
 use Rattle.sc_opt.specs.Tables.{NotesAll, NotesStmt, noted, with_fact, words_alone}
 use Rattle.sc_opt.specs.declared.facts.Assigned.{Assigned}
-use Rattle.sc_opt.specs.declared.facts.Assigned.TheVariants.{ByConstant, ByCopy, Nowhere, Otherwise, Several}
+use Rattle.sc_opt.specs.declared.facts.Assigned.TheVariants.{ByConstant, ByCopy, ByOperator, Nowhere, Otherwise}
+use Rattle.sc_opt.specs.declared.facts.Assigned.TheVariants.{Several}
 use Rattle.sc_opt.specs.declared.facts.Facts.{Facts}
 
 -- WHAT IS JOINED
@@ -24,6 +25,7 @@ pub joined_nothing : (x : Assigned) → joined x Nowhere ≡ x
 joined_nothing Nowhere = refl
 joined_nothing (ByConstant c) = refl
 joined_nothing (ByCopy u) = refl
+joined_nothing (ByOperator o left right) = refl
 joined_nothing Otherwise = refl
 joined_nothing Several = refl
 
@@ -153,12 +155,13 @@ module _ (stmt : TacStmt) (a b : List Facts) where
   none_words : (d t : ℕ) → (not (d == t || false) && true) ≡ (not (d == t) || false)
   none_words d t = and_true (not (d == t || false)) ∙ ap not (or_false (d == t)) ∙ sym (or_false (not (d == t)))
 
-  pub op_noted : (d : ℕ) (o : TacOp) (left : ℕ) (right : Option ℕ) (word : Bool) → stmt ≡ emit.Op d o left right →
-      word ≡ gives_word o → ((t : ℕ) → slice_get b t ≡ noted (d == t) Otherwise word (slice_get a t)) →
+  pub op_noted : (d : ℕ) (o : TacOp) (left : ℕ) (right : Option ℕ) → stmt ≡ emit.Op d o left right →
+      ((t : ℕ) → slice_get b t ≡ noted (d == t) (ByOperator o left right) (gives_word o) (slice_get a t)) →
       NotesStmt stmt a b
-  op_noted d o left right word is same h = otherwise_noted d word (tac.Op d o left right)
-      (emit.rolls-Op d o left right ∙ sym is) (λ t. refl)
-      (λ t. and_true (not (d == t) || gives_word o) ∙ ap (λ w. not (d == t) || w) (sym same)) h
+  op_noted d o left right is h = by_layer stmt (tac.Op d o left right) a b (emit.rolls-Op d o left right ∙ sym is) (λ t.
+      h t ∙ one_fact (d == t) (ByOperator o left right) (gives_word o) (slice_get a t)
+      ∙ ap (λ w. option_map (with_fact (if d == t then ByOperator o left right else Nowhere) w) (slice_get a t))
+      (sym (and_true (not (d == t) || gives_word o))))
 
   pub object_noted : (d object : ℕ) → stmt ≡ emit.ObjectPlace d object →
       ((t : ℕ) → slice_get b t ≡ noted (d == t) Otherwise false (slice_get a t)) → NotesStmt stmt a b

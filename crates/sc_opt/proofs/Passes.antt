@@ -10,7 +10,8 @@ use Rattle.sc_tac.specs.Prelude.{IsFunction, branches, code_function, everywhere
 use Rattle.sc_tac.specs.declared.function.TacFnTree.{TacFnTree}
 use Rattle.sc_tac.specs.declared.stmt.TacStmt.{TacStmt, TacStmt-F}
 use Rattle.sc_opt.specs.Optimised.{changed_function, optimised, optimised_within, statements}
-use Rattle.sc_opt.specs.Pass.{always_word, copy_source, is_read, lean, one_pass, table_of, takes_promised}
+use Rattle.sc_opt.specs.Pass.{always_word, copy_source, is_read, known_constant, lean, one_pass, table_of}
+use Rattle.sc_opt.specs.Pass.{takes_promised}
 use Rattle.sc_opt.proofs.Bounds.{assigned_nowhere}
 use Rattle.sc_opt.proofs.Counting.{no_more_branches, no_more_statements}
 use Rattle.sc_opt.proofs.Joined.{not_same}
@@ -78,17 +79,21 @@ counted number falls (suc n) body = by (kept_weight body) (counted number falls 
       (falls body)
 
 pub fewer_statements : (body : List TacStmt) → statements (optimised body) ≤ statements body
-fewer_statements body = counted statements (λ body. no_more_statements (table_of body) (copy_source (table_of body))
-    (is_read (table_of body) (copy_source (table_of body)) body) (always_word body) body) (weight body) body
+fewer_statements body = counted statements (λ body. no_more_statements (known_constant (table_of body))
+    (copy_source (table_of body))
+    (is_read (known_constant (table_of body)) (copy_source (table_of body)) body) (always_word body) body)
+    (weight body) body
 
 pub fewer_branches : (body : List TacStmt) → branches (optimised body) ≤ branches body
-fewer_branches body = counted branches (λ body. no_more_branches (table_of body) (copy_source (table_of body))
-    (is_read (table_of body) (copy_source (table_of body)) body) (always_word body) body) (weight body) body
+fewer_branches body = counted branches (λ body. no_more_branches (known_constant (table_of body))
+    (copy_source (table_of body))
+    (is_read (known_constant (table_of body)) (copy_source (table_of body)) body) (always_word body) body)
+    (weight body) body
 
 -- LEAN
 pub no_heavier_pass : (body : List TacStmt) → weight (one_pass body) ≤ weight body
-no_heavier_pass body = no_heavier (table_of body) (copy_source (table_of body))
-    (is_read (table_of body) (copy_source (table_of body)) body) (always_word body) body
+no_heavier_pass body = no_heavier (known_constant (table_of body)) (copy_source (table_of body))
+    (is_read (known_constant (table_of body)) (copy_source (table_of body)) body) (always_word body) body
 
 lean_after : (f : TacFnTree) → IsFunction f → weight (one_pass f.body) ≡ weight f.body → lean (one_pass f.body) ≡ true
 lean_after f rules same = subst (λ body. lean body ≡ true) (sym (nothing_changed f.body same))

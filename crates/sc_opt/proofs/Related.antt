@@ -6,6 +6,7 @@ use Rattle.sc_core.specs.Prelude.{follow, in_loop, in_order, rounds, take, turn,
 use Rattle.sc_core.specs.declared.run.RunEnd.{RunEnd}
 use Rattle.sc_core_laws.specs.Prelude.{without_line}
 use Rattle.sc_tac.specs.Prelude.{Codes, Lives, TempSet, Temps, no_temps, nothing, part_lives}
+use Rattle.sc_tac.specs.declared.stmt.Constant.{Constant}
 use Rattle.sc_opt.specs.Pass.{is_once}
 use Rattle.sc_opt.proofs.Agreement.{TempsAgree}
 use Rattle.sc_opt.specs.declared.facts.Assigned.{Assigned}
@@ -23,9 +24,9 @@ AddsOnly g assignments after = (t : ℕ) → assignments t ≡ Nowhere → g t �
 abbrev pub Splits : (whole first rest : Assignments) → Type 0
 Splits whole first rest = (t : ℕ) → whole t ≡ Nowhere → (first t ≡ Nowhere) × (rest t ≡ Nowhere)
 
-module _ (table : ℕ → Assigned) (source : ℕ → ℕ) (used holds_word : ℕ → Bool) where
+module _ (table : ℕ → Assigned) (constants : ℕ → Option Constant) (source : ℕ → ℕ) (used holds_word : ℕ → Bool) where
   abbrev pub At : TempSet → Temps → Temps → Temps → Type 0
-  At = TempsAgree table source used holds_word
+  At = TempsAgree table constants source used holds_word
 
   -- what is assigned in one place isn't there yet
   abbrev pub NotYet : Temps → Assignments → Type 0

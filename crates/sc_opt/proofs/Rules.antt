@@ -13,7 +13,6 @@ use Rattle.sc_tac.specs.declared.stmt.TacStmt.{TacStmt, TacStmt-F, fold-TacStmt,
 use Rattle.sc_tac.specs.declared.stmt.TacStmt.{roll-TacStmt}
 use Rattle.sc_tac.specs.declared.stmt.TacStmt.TheOpen as tac
 use Rattle.sc_opt.specs.Pass.{folded, keep_if, operator_code, pass, pass_step, present}
-use Rattle.sc_opt.specs.declared.facts.Assigned.{Assigned}
 
 -- a statement that the pass leaves as it is, where it doesn't go
 abbrev pub is_untouched : TacStmt-F Bool → Bool
@@ -25,7 +24,8 @@ is_untouched tac.Continue = true
 is_untouched (tac.Input dest) = true
 is_untouched _ = false
 
-module _ (table : ℕ → Assigned) (source : ℕ → ℕ) (used holds_word : ℕ → Bool) (before after : TacStmt-F Bool → Bool)
+module _ (constants : ℕ → Option Constant) (source : ℕ → ℕ) (used holds_word : ℕ → Bool)
+    (before after : TacStmt-F Bool → Bool)
   where
     -- where a statement passes the first test, what the pass makes of it passes the second, whatever stands inside
     pub record Stays : Type 0 where
@@ -33,10 +33,10 @@ module _ (table : ℕ → Assigned) (source : ℕ → ℕ) (used holds_word : �
       pub copied : (d from : ℕ) → (source d == source from) ≡ false → before (tac.Copy d from) ≡ true →
           after (tac.Copy d (source from)) ≡ true
       pub operated : (d : ℕ) (o : TacOp) (left : ℕ) (right : Option ℕ) →
-          folded table o left right ≡ None → before (tac.Op d o left right) ≡ true →
+          folded constants o left right ≡ None → before (tac.Op d o left right) ≡ true →
           after (tac.Op d o (source left) (option_map source right)) ≡ true
       pub computed : (d : ℕ) (o : TacOp) (left : ℕ) (right : Option ℕ) (c : Constant) →
-          before (tac.Op d o left right) ≡ true → folded table o left right ≡ Some c →
+          before (tac.Op d o left right) ≡ true → folded constants o left right ≡ Some c →
           after (tac.Const d c) ≡ true
       pub loaded : (d place : ℕ) (pointer : Bool) → before (tac.Load d place pointer) ≡ true →
           after (tac.Load d (source place) pointer) ≡ true
@@ -65,7 +65,7 @@ module _ (table : ℕ → Assigned) (source : ℕ → ℕ) (used holds_word : �
       holds = fold-TacStmt Bool (with_parts after)
 
       abbrev passes : TacStmt → Option TacStmt
-      passes = pass table source used holds_word
+      passes = pass constants source used holds_word
 
       abbrev holds_of : Option TacStmt → Bool
       holds_of None = true
@@ -98,7 +98,7 @@ module _ (table : ℕ → Assigned) (source : ℕ → ℕ) (used holds_word : �
       if_kept false k h = refl
 
       op_stable : (d : ℕ) (o : TacOp) (left : ℕ) (right : Option ℕ) → before (tac.Op d o left right) ≡ true →
-          (f : Option Constant) → folded table o left right ≡ f →
+          (f : Option Constant) → folded constants o left right ≡ f →
           holds_of (operator_code source used holds_word d o left right f) ≡ true
       op_stable d o left right h (Some c) is = if_kept (used d) (tac.Const d c)
           (kept (tac.Const d c) (after (tac.Const d c)) refl (stays.computed d o left right c h is))
@@ -119,13 +119,13 @@ module _ (table : ℕ → Assigned) (source : ℕ → ℕ) (used holds_word : �
       untouched k l plain is h = kept k (after l) is (stays.untouched l plain (and_first (before l) true h))
 
       layer_stable : (k : TacStmt-F TacStmt) → Inside Stable k → with_parts before (map-TacStmt _ _ held k) ≡ true →
-          holds_of (pass_step table source used holds_word (map-TacStmt _ _ passes k)) ≡ true
+          holds_of (pass_step constants source used holds_word (map-TacStmt _ _ passes k)) ≡ true
       layer_stable (tac.Const d value) i h = if_kept (used d) (tac.Const d value)
           (untouched (tac.Const d value) (tac.Const d value) refl refl h)
       layer_stable (tac.Copy d from) i h =
           copy_stable d from (and_first (before (tac.Copy d from)) true h) (source d == source from) refl
       layer_stable (tac.Op d o left right) i h = op_stable d o left right
-          (and_first (before (tac.Op d o left right)) true h) (folded table o left right) refl
+          (and_first (before (tac.Op d o left right)) true h) (folded constants o left right) refl
       layer_stable (tac.ObjectPlace d object) i h = if_kept (used d) (tac.ObjectPlace d object)
           (untouched (tac.ObjectPlace d object) (tac.ObjectPlace d object) refl refl h)
       layer_stable (tac.GlobalPlace d global) i h = if_kept (used d) (tac.GlobalPlace d global)
@@ -185,7 +185,7 @@ module _ (table : ℕ → Assigned) (source : ℕ → ℕ) (used holds_word : �
 
       stmt_stable : (stmt : TacStmt) → Stable stmt
       stmt_stable = stmt_induction Stable (λ k i h. ap holds_of (fold-roll-TacStmt (Option TacStmt)
-          (pass_step table source used holds_word) k) ∙ layer_stable k i (sym (fold-roll-TacStmt Bool
+          (pass_step constants source used holds_word) k) ∙ layer_stable k i (sym (fold-roll-TacStmt Bool
           (with_parts before) k) ∙ h))
 
       -- what each statement keeps by itself

@@ -8,7 +8,8 @@ use Rattle.std.specs.Option.{unwrap_or}
 use Rattle.sc_opt.specs.Pass.{copies_one, copy_source, copy_sources, is_once, source_by}
 use Rattle.sc_opt.specs.Tables.{source_at}
 use Rattle.sc_opt.specs.declared.facts.Assigned.{Assigned}
-use Rattle.sc_opt.specs.declared.facts.Assigned.TheVariants.{ByConstant, ByCopy, Nowhere, Otherwise, Several}
+use Rattle.sc_opt.specs.declared.facts.Assigned.TheVariants.{ByConstant, ByCopy, ByOperator, Nowhere, Otherwise}
+use Rattle.sc_opt.specs.declared.facts.Assigned.TheVariants.{Several}
 use Rattle.sc_opt.proofs.Copies.{here, lower}
 use Rattle.sc_opt.proofs.Telling.{ranged}
 
@@ -33,6 +34,7 @@ module _ (table : ℕ → Assigned) (t : ℕ) where
   by_known (ByCopy u) = either u (is_once (table u)) (nat_lt u t) refl (if copies_one table (table u) then t else u)
   by_known Nowhere = refl
   by_known (ByConstant c) = refl
+  by_known (ByOperator o left right) = refl
   by_known Otherwise = refl
   by_known Several = refl
 

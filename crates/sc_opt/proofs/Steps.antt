@@ -14,21 +14,22 @@ use Rattle.sc_tac.specs.Prelude.{known}
 use Rattle.sc_tac.specs.Prelude.{read, read_all}
 use Rattle.sc_tac.specs.Prelude.{stmt_does, with_temp}
 use Rattle.sc_tac.specs.declared.stmt.Constant.{Constant}
+use Rattle.sc_tac.specs.declared.stmt.TacOp.{TacOp}
 use Rattle.sc_tac.specs.declared.stmt.TacStmt.{TacStmt, TacStmt-F, fold-roll-TacStmt, map-TacStmt, roll-TacStmt}
 use Rattle.sc_opt.specs.Pass.{all_used, is_once, keep_if}
 use Rattle.sc_opt.proofs.Joined.{AtMost, decide, with_here, with_other}
-use Rattle.sc_opt.proofs.Agreement.{Gains, AreSources, Moved, Reads, gained, less, reads_of}
+use Rattle.sc_opt.proofs.Agreement.{AreConstants, AreSources, Computed, Gains, Moved, Reads, gained, less, reads_of}
 use Rattle.sc_opt.proofs.Related.{At, Assignments, Follows, AddsOnly, Lands, across}
 use Rattle.sc_opt.proofs.Related.{follows_along}
 use Rattle.sc_opt.specs.declared.facts.Assigned.{Assigned}
-use Rattle.sc_opt.specs.declared.facts.Assigned.TheVariants.{ByConstant, ByCopy, Nowhere, Several}
+use Rattle.sc_opt.specs.declared.facts.Assigned.TheVariants.{ByConstant, ByCopy, ByOperator, Nowhere, Several}
 
 -- a statement, unless it went
 abbrev pub does_option : Arith → Here → Calls → Option TacStmt → Codes
 does_option arith here by None = leave Next
 does_option arith here by (Some stmt) = stmt_does arith here by stmt
 
-module _ (table : ℕ → Assigned) (source : ℕ → ℕ) (used holds_word : ℕ → Bool)
+module _ (table : ℕ → Assigned) (constants : ℕ → Option Constant) (source : ℕ → ℕ) (used holds_word : ℕ → Bool)
     (are_sources : AreSources table source used holds_word)
     (arith : Arith) (here : Here) (C D : Calls) where
   abbrev pub done : Option TacStmt → Codes
@@ -39,7 +40,7 @@ module _ (table : ℕ → Assigned) (source : ℕ → ℕ) (used holds_word : �
       ≡ code_step arith here by (map-TacStmt _ _ (stmt_does arith here by) k) b s
   rolled by k b s = ap (λ f. f b s) (fold-roll-TacStmt Codes (code_step arith here by) k)
 
-  -- what isn't assigned_first by a copy alone is read where it is
+  -- what isn't assigned by a copy alone is read where it is
   pub plain_source : (d : ℕ) (x : Assigned) → AtMost x (table d) → (x ≡ Nowhere → ⊥) → ((u : ℕ) → x ≡ ByCopy u → ⊥) →
       source d ≡ d
   plain_source d x below some no_copy = by (are_sources d) below where
@@ -49,16 +50,23 @@ module _ (table : ℕ → Assigned) (source : ℕ → ℕ) (used holds_word : �
     by (inr m) (inr (inl h)) = absurd (no_copy m.from (h ∙ m.copies))
     by (inr m) (inr (inr h)) = let no : ByCopy m.from ≡ Several = sym m.copies ∙ h in absurd (cc no)
 
-  -- what isn't assigned_first by a constant alone isn't taken for one
-  pub no_constant : {B : Type 0} (d : ℕ) (x : Assigned) (c : Constant) → AtMost x (table d) → (x ≡ Nowhere → ⊥) →
-      ((c : Constant) → x ≡ ByConstant c → ⊥) → table d ≡ ByConstant c → B
-  no_constant d x c (inl h) some other is = absurd (some h)
-  no_constant d x c (inr (inl h)) some other is = absurd (other c (h ∙ is))
-  no_constant d x c (inr (inr h)) some other is = let bad : Several ≡ ByConstant c = sym h ∙ is in absurd (cc bad)
+  -- what is assigned by no constant and no operator isn't taken for one
+  pub no_constant : {B : Type 0} (are_constants : AreConstants table constants source used holds_word) (d : ℕ)
+      (x : Assigned) (c : Constant) → AtMost x (table d) → (x ≡ Nowhere → ⊥) →
+      ((c : Constant) → x ≡ ByConstant c → ⊥) →
+      ((o : TacOp) (left : ℕ) (right : Option ℕ) → x ≡ ByOperator o left right → ⊥) → constants d ≡ Some c → B
+  no_constant {B} are_constants d x c below some plain operator held = by (are_constants d c held) below where
+    by : ((table d ≡ ByConstant c) ⊎ Computed table constants source used holds_word d c) → AtMost x (table d) → B
+    by k (inl h) = absurd (some h)
+    by (inl is) (inr (inl h)) = absurd (plain c (h ∙ is))
+    by (inl is) (inr (inr h)) = let bad : Several ≡ ByConstant c = sym h ∙ is in absurd (cc bad)
+    by (inr m) (inr (inl h)) = absurd (operator m.op m.left m.right (h ∙ m.assigned))
+    by (inr m) (inr (inr h)) = let bad : Several ≡ ByOperator m.op m.left m.right = sym h ∙ m.assigned in absurd
+        (cc bad)
 
   module _ (lives : Lives) (g : Temps) (assignments : Assignments) where
     abbrev R : Piece (Left Temps) → Piece (Left Temps) → Type 0
-    R = Follows table source used holds_word lives g assignments
+    R = Follows table constants source used holds_word lives g assignments
 
     pub computed_related : {V : Type 0} (r : Result V Cause) (s : State) (f h : V → State → Piece (Left Temps)) →
         ((v : V) → r ≡ Ok v → R (f v s) (h v s)) →
@@ -92,8 +100,8 @@ module _ (table : ℕ → Assigned) (source : ℕ → ℕ) (used holds_word : �
     piece_related (Reached v s) f h k = k v s
     piece_related (Stopped end s) f h k = record { related = record { other = _; is = refl; same = refl } }
 
-    module _ (first : TempSet) (a b : Temps) (p : At table source used holds_word first g a b) where
-      -- control goes on, and nothing was assigned_first
+    module _ (first : TempSet) (a b : Temps) (p : At table constants source used holds_word first g a b) where
+      -- control goes on, and nothing was assigned
       pub stays : (s : State) → ((t : ℕ) → lives.following t ≡ true → first t ≡ true) →
           R (leave Next a s) (leave Next b s)
       stays s on = record {
@@ -102,7 +110,7 @@ module _ (table : ℕ → Assigned) (source : ℕ → ℕ) (used holds_word : �
           is = refl;
           lands = record {
             after = g;
-            agree = less table source used holds_word first lives.following g a b on p;
+            agree = less table constants source used holds_word first lives.following g a b on p;
             adds = λ t n e. e;
           };
         };
@@ -112,14 +120,14 @@ module _ (table : ℕ → Assigned) (source : ℕ → ℕ) (used holds_word : �
       abbrev CanRead : ℕ → Type 0
       CanRead t = (first t ≡ true) × (used (source t) ≡ true)
 
-      pub reads : (t : ℕ) → CanRead t → Reads table source used holds_word g a b t
-      reads t h = reads_of table source used holds_word first g a b t p h.0 h.1
+      pub reads : (t : ℕ) → CanRead t → Reads table constants source used holds_word g a b t
+      reads t h = reads_of table constants source used holds_word first g a b t p h.0 h.1
 
-      pub read_here : (t : ℕ) (r : Reads table source used holds_word g a b t) (s : State) →
+      pub read_here : (t : ℕ) (r : Reads table constants source used holds_word g a b t) (s : State) →
           read here t a s ≡ Reached r.value s
       read_here t r s = ap (λ o. computed here 0 (known o) s) r.here
 
-      pub read_there : (t : ℕ) (r : Reads table source used holds_word g a b t) (s : State) →
+      pub read_there : (t : ℕ) (r : Reads table constants source used holds_word g a b t) (s : State) →
           read here (source t) b s ≡ Reached r.value s
       read_there t r s = ap (λ o. computed here 0 (known o) s) r.there
 
@@ -127,7 +135,8 @@ module _ (table : ℕ → Assigned) (source : ℕ → ℕ) (used holds_word : �
           ((v : Value) → g t ≡ Some v → R (f v s) (h v s)) →
           R (and_then (read here t a s) f) (and_then (read here (source t) b s) h)
       read_then t can s f h k = let r = reads t can in
-          across table source used holds_word (ap (λ o. and_then o f) (read_here t r s)) (ap (λ o. and_then o h)
+          across table constants source used holds_word (ap (λ o. and_then o f) (read_here t r s))
+          (ap (λ o. and_then o h)
           (read_there t r s))
           (k r.value r.ghost)
 
@@ -159,7 +168,7 @@ module _ (table : ℕ → Assigned) (source : ℕ → ℕ) (used holds_word : �
       module _ (d : ℕ) (v : Value) (s : State) (new : is_once (table d) ≡ true → g d ≡ None)
           (comes : assignments d ≡ Nowhere → ⊥)
           (on : (t : ℕ) → lives.following t ≡ true → (t == d) ≡ false → first t ≡ true)
-          (const : (c : Constant) → table d ≡ ByConstant c → v ≡ constant_value c)
+          (const : (c : Constant) → constants d ≡ Some c → v ≡ constant_value c)
           (word : holds_word d ≡ true → is_word v ≡ true) where
         abbrev puts : Temps → Piece (Left Temps)
         puts temps = leave Next (with_temp d v temps) s
@@ -167,11 +176,12 @@ module _ (table : ℕ → Assigned) (source : ℕ → ℕ) (used holds_word : �
         adds : AddsOnly g assignments (with_temp d v g)
         adds t n e = decide t d (λ is. absurd (comes (sym (ap assignments is) ∙ n))) (λ m. with_other d v g t m ∙ e)
 
-        lands : (b' : Temps) → Gains table source used holds_word g b b' d v →
-            Lands table source used holds_word lives.following g assignments (with_temp d v a) b'
+        lands : (b' : Temps) → Gains table constants source used holds_word g b b' d v →
+            Lands table constants source used holds_word lives.following g assignments (with_temp d v a) b'
         lands b' gains = record {
           after = with_temp d v g;
-          agree = gained table source used holds_word are_sources first lives.following g a b b' d v p gains on;
+          agree = gained table constants source used holds_word are_sources first lives.following g a b b' d v p gains
+              on;
           adds = adds;
         }
 
@@ -216,5 +226,5 @@ module _ (table : ℕ → Assigned) (source : ℕ → ℕ) (used holds_word : �
           pub either : (u : Bool) → used d ≡ u → (k : TacStmt-F TacStmt) →
               code_step arith here D (map-TacStmt _ _ (stmt_does arith here D) k) b s ≡ puts b →
               R (puts a) (done (keep_if u k) b s)
-          either true h k is = follows_along table source used holds_word (rolled D k b s ∙ is) both
+          either true h k is = follows_along table constants source used holds_word (rolled D k b s ∙ is) both
           either false h k is = unread h

@@ -11,7 +11,6 @@ use Rattle.sc_tac.specs.declared.stmt.TacStmt.{TacStmt, TacStmt-F, fold-TacStmt,
 use Rattle.sc_tac.specs.declared.stmt.TacStmt.{roll-TacStmt}
 use Rattle.sc_tac.specs.declared.stmt.TacStmt.TheOpen as tac
 use Rattle.sc_opt.specs.Pass.{folded, keep_if, operator_code, pass, pass_step, present}
-use Rattle.sc_opt.specs.declared.facts.Assigned.{Assigned}
 
 -- a statement without others inside, which leaves no loop
 abbrev is_plain : TacStmt-F Bool → Bool
@@ -76,10 +75,10 @@ continues = record {
       from_both (some_hold x) (some_hold z) (f two.0) (k two.1);
 }
 
-module _ (table : ℕ → Assigned) (source : ℕ → ℕ) (used holds_word : ℕ → Bool) (stray : TacStmt-F Bool → Bool)
+module _ (constants : ℕ → Option Constant) (source : ℕ → ℕ) (used holds_word : ℕ → Bool) (stray : TacStmt-F Bool → Bool)
     (strays : Strays stray) where
   abbrev passes : TacStmt → Option TacStmt
-  passes = pass table source used holds_word
+  passes = pass constants source used holds_word
 
   abbrev strays_in : TacStmt → Bool
   strays_in = fold-TacStmt Bool stray
@@ -120,10 +119,10 @@ module _ (table : ℕ → Assigned) (source : ℕ → ℕ) (used holds_word : �
   op_tame d o left right None = if_kept _ (tac.Op d o (source left) (option_map source right)) refl
 
   layer_tame : (k : TacStmt-F TacStmt) → Inside Tame k → stray (map-TacStmt _ _ strays_in k) ≡ false →
-      strays_of (pass_step table source used holds_word (map-TacStmt _ _ passes k)) ≡ false
+      strays_of (pass_step constants source used holds_word (map-TacStmt _ _ passes k)) ≡ false
   layer_tame (tac.Const d value) i h = if_kept (used d) (tac.Const d value) refl
   layer_tame (tac.Copy d from) i h = if_kept _ (tac.Copy d (source from)) refl
-  layer_tame (tac.Op d o left right) i h = op_tame d o left right (folded table o left right)
+  layer_tame (tac.Op d o left right) i h = op_tame d o left right (folded constants o left right)
   layer_tame (tac.ObjectPlace d object) i h = if_kept (used d) (tac.ObjectPlace d object) refl
   layer_tame (tac.GlobalPlace d global) i h = if_kept (used d) (tac.GlobalPlace d global) refl
   layer_tame (tac.Load d place pointer) i h = none (tac.Load d (source place) pointer) refl
@@ -149,7 +148,7 @@ module _ (table : ℕ → Assigned) (source : ℕ → ℕ) (used holds_word : �
 
   stmt_tame : (stmt : TacStmt) → Tame stmt
   stmt_tame = stmt_induction Tame (λ k i h. ap strays_of (fold-roll-TacStmt (Option TacStmt)
-      (pass_step table source used holds_word) k) ∙ layer_tame k i (sym (rolled k) ∙ h))
+      (pass_step constants source used holds_word) k) ∙ layer_tame k i (sym (rolled k) ∙ h))
 
   none_stray : (body : List TacStmt) → has_none stray body ≡ true → has_none stray (present (map passes body)) ≡ true
   none_stray body h = ap not (row_tame body (everywhere_in Tame stmt_tame body) (from_not _ h)) where
@@ -157,11 +156,11 @@ module _ (table : ℕ → Assigned) (source : ℕ → ℕ) (used holds_word : �
     from_not true n = let no : false ≡ true = n in absurd (cc no)
     from_not false n = refl
 
-module _ (table : ℕ → Assigned) (source : ℕ → ℕ) (used holds_word : ℕ → Bool) where
+module _ (constants : ℕ → Option Constant) (source : ℕ → ℕ) (used holds_word : ℕ → Bool) where
   pub no_stray_break : (body : List TacStmt) → has_none stray_break body ≡ true →
-      has_none stray_break (present (map (pass table source used holds_word) body)) ≡ true
-  no_stray_break = none_stray table source used holds_word stray_break breaks
+      has_none stray_break (present (map (pass constants source used holds_word) body)) ≡ true
+  no_stray_break = none_stray constants source used holds_word stray_break breaks
 
   pub no_stray_continue : (body : List TacStmt) → has_none stray_continue body ≡ true →
-      has_none stray_continue (present (map (pass table source used holds_word) body)) ≡ true
-  no_stray_continue = none_stray table source used holds_word stray_continue continues
+      has_none stray_continue (present (map (pass constants source used holds_word) body)) ≡ true
+  no_stray_continue = none_stray constants source used holds_word stray_continue continues

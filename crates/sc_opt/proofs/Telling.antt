@@ -14,16 +14,17 @@ use Rattle.sc_tac.specs.declared.stmt.Constant.{Constant}
 use Rattle.sc_tac.specs.declared.stmt.TacStmt.{TacStmt, TacStmt-F, fold-TacStmt, fold-roll-TacStmt, map-TacStmt}
 use Rattle.sc_tac.specs.declared.stmt.TacStmt.TheOpen as tac
 use Rattle.sc_opt.specs.Pass.{always_word, assigned_in, assigns_words, copies_one, copy_source, folded, is_read}
-use Rattle.sc_opt.specs.Pass.{one_pass}
+use Rattle.sc_opt.specs.Pass.{constant_by, constants_below, known_constant, one_pass}
 use Rattle.sc_opt.specs.Pass.{passed, reads_some, reads_unless, reads_within, table_of}
-use Rattle.sc_opt.specs.Tables.{Tell, assigned_at, holds_word_at, marked, nothing_known, passed_by, reads_stmt}
+use Rattle.sc_opt.specs.Tables.{Tell, assigned_at, constant_at, holds_word_at, marked, nothing_known, passed_by}
+use Rattle.sc_opt.specs.Tables.{reads_stmt}
 use Rattle.sc_opt.specs.Tables.{source_at}
 use Rattle.sc_opt.specs.Tables.{used_at, with_fact}
-use Rattle.sc_opt.specs.declared.facts.Assigned.{Assigned}
 use Rattle.sc_opt.specs.declared.facts.Facts.{Facts}
 use Rattle.sc_opt.specs.declared.pass.Tables.{Tables}
 use Rattle.sc_opt.proofs.Bounds.{assigned_nowhere, back, differs, front, not_one}
 use Rattle.sc_opt.proofs.Inside.{sources_inside}
+use Rattle.sc_opt.proofs.AllKnown.{here}
 use Rattle.sc_opt.proofs.Copies.{at_home}
 
 -- LISTS
@@ -127,10 +128,10 @@ module _ (temps x : ℕ) (out : temps ≤ x) where
   words_outside body h = row_wordy body (everywhere_in Wordy stmt_wordy body) h
 
   -- nor is one read
-  module _ (table : ℕ → Assigned) (source : ℕ → ℕ)
+  module _ (constants : ℕ → Option Constant) (source : ℕ → ℕ)
       (inside : (t : ℕ) → nat_lt t temps ≡ true → nat_lt (source t) temps ≡ true) where
     abbrev reads : TacStmt → Bool
-    reads = reads_stmt table source x
+    reads = reads_stmt constants source x
 
     abbrev Silent : TacStmt → Type 0
     Silent stmt = owns stmt ≡ true → reads stmt ≡ false
@@ -168,11 +169,11 @@ module _ (temps x : ℕ) (out : temps ≤ x) where
 
     layer_silent : (k : TacStmt-F TacStmt) → Inside Silent k →
         with_parts (names_own_temps temps) (map-TacStmt _ _ owns k) ≡ true →
-        reads_within table source x (map-TacStmt _ _ reads k) ≡ false
+        reads_within constants source x (map-TacStmt _ _ reads k) ≡ false
     layer_silent (tac.Const d value) i h = refl
     layer_silent (tac.Copy d from) i h = neither _ false (copied _ from (and_first (nat_lt from temps) true
         (back temps x out (Some d) (from ∷ []) (and_first (own (d ∷ from ∷ [])) true h)))) refl
-    layer_silent (tac.Op d o left right) i h = neither _ false (unless (folded table o left right)
+    layer_silent (tac.Op d o left right) i h = neither _ false (unless (folded constants o left right)
         (left ∷ one_or_none right) (back temps x out (Some d) (left ∷ one_or_none right)
         (and_first (own (d ∷ left ∷ one_or_none right)) true h))) refl
     layer_silent (tac.ObjectPlace d object) i h = refl
@@ -202,11 +203,11 @@ module _ (temps x : ℕ) (out : temps ≤ x) where
     layer_silent (tac.Return value) i h = plain None (one_or_none value) h
 
     stmt_silent : (stmt : TacStmt) → Silent stmt
-    stmt_silent = stmt_induction Silent (λ k i h. fold-roll-TacStmt Bool (reads_within table source x) k
+    stmt_silent = stmt_induction Silent (λ k i h. fold-roll-TacStmt Bool (reads_within constants source x) k
         ∙ layer_silent k i (sym (fold-roll-TacStmt Bool (with_parts (names_own_temps temps)) k) ∙ h))
 
     pub unread_outside : (body : List TacStmt) → everywhere (names_own_temps temps) body ≡ true →
-        is_read table source body x ≡ false
+        is_read constants source body x ≡ false
     unread_outside body h = row_silent body (everywhere_in Silent stmt_silent body) h
 
 -- THE TABLES
@@ -253,6 +254,21 @@ module _ (temps : ℕ) (body : List TacStmt) (own : everywhere (names_own_temps 
   source_is : source_at tables.origins.sources ≡ copy_source (table_of body)
   source_is = (λ i t. source_is_at t (nat_lt t temps) refl i) ∙ ap copy_source table_is
 
+  constant_is_at : (t : ℕ) (b : Bool) → nat_lt t temps ≡ b →
+      constant_at tables.origins.constants t ≡ known_constant (assigned_at facts) t
+  constant_is_at t true is = ap (λ l. unwrap_or (slice_get l t) None) tell.constants
+      ∙ ap (λ o. unwrap_or o None) (ranged (known_constant (assigned_at facts)) 0 temps t (ltb-true t temps is))
+      ∙ ap (known_constant (assigned_at facts)) (no_more t) where
+        no_more : (t : ℕ) → 0 + t ≡ t
+        no_more t = omega arith
+  constant_is_at t false is = ap (λ l. unwrap_or (slice_get l t) None) tell.constants
+      ∙ ap (λ o. unwrap_or o None) (ranged_out (known_constant (assigned_at facts)) 0 temps t (ltb-false t temps is))
+      ∙ sym (ap (λ table. known_constant table t) table_is ∙ here (table_of body) t
+      ∙ ap (constant_by (constants_below (table_of body) t)) (assigned_nowhere temps t (ltb-false t temps is) body own))
+
+  constants_are : constant_at tables.origins.constants ≡ known_constant (table_of body)
+  constants_are = (λ i t. constant_is_at t (nat_lt t temps) refl i) ∙ ap known_constant table_is
+
   mark_of : (r : Bool) → unwrap_or (marked r (Some false)) false ≡ r
   mark_of true = refl
   mark_of false = refl
@@ -262,21 +278,22 @@ module _ (temps : ℕ) (body : List TacStmt) (own : everywhere (names_own_temps 
   no_mark false = refl
 
   used_is_at : (x : ℕ) (b : Bool) → nat_lt x temps ≡ b →
-      used_at tables.marks x ≡ is_read (table_of body) (copy_source (table_of body)) body x
+      used_at tables.marks x ≡ is_read (known_constant (table_of body)) (copy_source (table_of body)) body x
   used_is_at x true is = ap (λ o. unwrap_or o false) (tell.marks.at x
-      ∙ ap (marked (is_read (assigned_at facts) (source_at tables.origins.sources) body x))
+      ∙ ap (marked (is_read (constant_at tables.origins.constants) (source_at tables.origins.sources) body x))
       (replicated temps false x (ltb-true x temps is)))
-      ∙ mark_of (is_read (assigned_at facts) (source_at tables.origins.sources) body x)
-      ∙ (λ i. is_read (table_is i) (source_is i) body x)
+      ∙ mark_of (is_read (constant_at tables.origins.constants) (source_at tables.origins.sources) body x)
+      ∙ (λ i. is_read (constants_are i) (source_is i) body x)
   used_is_at x false is = ap (λ o. unwrap_or o false) (tell.marks.at x
-      ∙ ap (marked (is_read (assigned_at facts) (source_at tables.origins.sources) body x))
+      ∙ ap (marked (is_read (constant_at tables.origins.constants) (source_at tables.origins.sources) body x))
       (replicated_out temps false x (ltb-false x temps is)))
-      ∙ no_mark (is_read (assigned_at facts) (source_at tables.origins.sources) body x)
-      ∙ sym (unread_outside temps x (ltb-false x temps is) (table_of body) (copy_source (table_of body))
+      ∙ no_mark (is_read (constant_at tables.origins.constants) (source_at tables.origins.sources) body x)
+      ∙ sym (unread_outside temps x (ltb-false x temps is) (known_constant (table_of body))
+      (copy_source (table_of body))
       (sources_inside temps body (λ t. true) (λ t. true) own) body own)
 
-  used_is : used_at tables.marks ≡ is_read (table_of body) (copy_source (table_of body)) body
+  used_is : used_at tables.marks ≡ is_read (known_constant (table_of body)) (copy_source (table_of body)) body
   used_is = λ i x. used_is_at x (nat_lt x temps) refl i
 
   pub passed_is : passed_by tables body ≡ one_pass body
-  passed_is = λ i. passed (table_is i) (source_is i) (used_is i) (words_are i) body
+  passed_is = λ i. passed (constants_are i) (source_is i) (used_is i) (words_are i) body

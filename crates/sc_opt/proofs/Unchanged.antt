@@ -12,19 +12,19 @@ use Rattle.sc_tac.specs.declared.stmt.TacOp.{TacOp}
 use Rattle.sc_tac.specs.declared.stmt.TacStmt.{TacStmt, TacStmt-F, fold-TacStmt, fold-roll-TacStmt, map-TacStmt}
 use Rattle.sc_tac.specs.declared.stmt.TacStmt.{roll-TacStmt}
 use Rattle.sc_tac.specs.declared.stmt.TacStmt.TheOpen as tac
-use Rattle.sc_opt.specs.Pass.{always_word, copy_source, folded, is_kept, is_none, is_read, is_total, keep_if, one_pass}
-use Rattle.sc_opt.specs.Pass.{operator_code, pass, pass_step, present, table_of}
-use Rattle.sc_opt.specs.declared.facts.Assigned.{Assigned}
+use Rattle.sc_opt.specs.Pass.{always_word, copy_source, folded, is_kept, is_none, is_read, is_total, keep_if}
+use Rattle.sc_opt.specs.Pass.{known_constant, one_pass, operator_code, pass, pass_step, present, table_of}
 use Rattle.sc_opt.proofs.Falling.{all_left}
 use Rattle.sc_opt.proofs.Lean.{at_home}
 use Rattle.sc_opt.proofs.Copies.{all_sourced}
 
-module _ (table : ℕ → Assigned) (source : ℕ → ℕ) (used holds_word : ℕ → Bool) (home : (t : ℕ) → source t ≡ t) where
+module _ (constants : ℕ → Option Constant) (source : ℕ → ℕ) (used holds_word : ℕ → Bool)
+    (home : (t : ℕ) → source t ≡ t) where
   abbrev kept : TacStmt → Bool
-  kept = fold-TacStmt Bool (with_parts (is_kept table source used holds_word))
+  kept = fold-TacStmt Bool (with_parts (is_kept constants source used holds_word))
 
   abbrev passes : TacStmt → Option TacStmt
-  passes = pass table source used holds_word
+  passes = pass constants source used holds_word
 
   abbrev Stays : TacStmt → Type 0
   Stays stmt = kept stmt ≡ true → passes stmt ≡ Some stmt
@@ -59,18 +59,18 @@ module _ (table : ℕ → Assigned) (source : ℕ → ℕ) (used holds_word : �
       ∙ ap₂ (λ l r. Some (roll-TacStmt (tac.Op d o l r))) (home left) (maybe_home right)
 
   layer_stays : (k : TacStmt-F TacStmt) → Inside Stays k →
-      with_parts (is_kept table source used holds_word) (map-TacStmt _ _ kept k) ≡ true →
-      pass_step table source used holds_word (map-TacStmt _ _ passes k) ≡ Some (roll-TacStmt k)
+      with_parts (is_kept constants source used holds_word) (map-TacStmt _ _ kept k) ≡ true →
+      pass_step constants source used holds_word (map-TacStmt _ _ passes k) ≡ Some (roll-TacStmt k)
   layer_stays (tac.Const d value) i h = if_used (used d) (tac.Const d value) (and_first (used d) true h)
   layer_stays (tac.Copy d from) i h =
       if_used _ (tac.Copy d (source from)) (and_first (not (source d == source from) && used d) true h)
       ∙ ap (λ t. Some (roll-TacStmt (tac.Copy d t))) (home from)
   layer_stays (tac.Op d o left right) i h =
-      let all = and_first (is_none (folded table o left right)
+      let all = and_first (is_none (folded constants o left right)
       && (used d || not (is_total holds_word o left right))) true h in
-      op_stays d o left right (folded table o left right)
-      (and_first (is_none (folded table o left right)) _ all)
-      (and_rest (is_none (folded table o left right)) _ all)
+      op_stays d o left right (folded constants o left right)
+      (and_first (is_none (folded constants o left right)) _ all)
+      (and_rest (is_none (folded constants o left right)) _ all)
   layer_stays (tac.ObjectPlace d object) i h = if_used (used d) (tac.ObjectPlace d object) (and_first (used d) true h)
   layer_stays (tac.GlobalPlace d global) i h = if_used (used d) (tac.GlobalPlace d global) (and_first (used d) true h)
   layer_stays (tac.Load d place pointer) i h = ap (λ t. Some (roll-TacStmt (tac.Load d t pointer))) (home place)
@@ -102,19 +102,20 @@ module _ (table : ℕ → Assigned) (source : ℕ → ℕ) (used holds_word : �
 
   stmt_stays : (stmt : TacStmt) → Stays stmt
   stmt_stays = stmt_induction Stays (λ k i h. fold-roll-TacStmt (Option TacStmt)
-      (pass_step table source used holds_word) k
-      ∙ layer_stays k i (sym (fold-roll-TacStmt Bool (with_parts (is_kept table source used holds_word)) k) ∙ h))
+      (pass_step constants source used holds_word) k
+      ∙ layer_stays k i (sym (fold-roll-TacStmt Bool (with_parts (is_kept constants source used holds_word)) k) ∙ h))
 
-  all_stay : (body : List TacStmt) → everywhere (is_kept table source used holds_word) body ≡ true →
+  all_stay : (body : List TacStmt) → everywhere (is_kept constants source used holds_word) body ≡ true →
       present (map passes body) ≡ body
   all_stay body h = row_stays body (everywhere_in Stays stmt_stays body) h
 
 pub nothing_changed : (body : List TacStmt) → weight (one_pass body) ≡ weight body → one_pass body ≡ body
 nothing_changed body same =
     let table = table_of body in
+    let constants = known_constant table in
     let source = copy_source table in
-    let used = is_read table source body in
+    let used = is_read constants source body in
     let holds_word = always_word body in
-    let left = all_left table source used holds_word body same in
-    all_stay table source used holds_word
-    (at_home table used holds_word (all_sourced table used holds_word) body (λ t. refl) left) body left
+    let left = all_left constants source used holds_word body same in
+    all_stay constants source used holds_word
+    (at_home table constants used holds_word (all_sourced table used holds_word) body (λ t. refl) left) body left

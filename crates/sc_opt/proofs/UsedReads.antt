@@ -12,9 +12,8 @@ use Rattle.sc_tac.specs.declared.stmt.TacStmt.{TacStmt, TacStmt-F, fold-TacStmt,
 use Rattle.sc_tac.specs.declared.stmt.TacStmt.TheOpen as tac
 use Rattle.sc_opt.specs.Pass.{all_used, folded, is_read, reads_here, reads_some, reads_unless, reads_used}
 use Rattle.sc_opt.specs.Pass.{reads_within, unless_folded}
-use Rattle.sc_opt.specs.declared.facts.Assigned.{Assigned}
 
-module _ (table : ℕ → Assigned) (source : ℕ → ℕ) (used holds_word : ℕ → Bool) where
+module _ (constants : ℕ → Option Constant) (source : ℕ → ℕ) (used holds_word : ℕ → Bool) where
   all_are : (temps : List ℕ) → ((x : ℕ) → reads_some source x temps ≡ true → used x ≡ true) →
       all_used source used temps ≡ true
   all_are [] h = refl
@@ -33,10 +32,10 @@ module _ (table : ℕ → Assigned) (source : ℕ → ℕ) (used holds_word : �
   copy_is false r h = h r (eq-eqb r r refl)
 
   abbrev test : TacStmt → Bool
-  test = fold-TacStmt Bool (with_parts (reads_used table source used))
+  test = fold-TacStmt Bool (with_parts (reads_used constants source used))
 
   abbrev reads : ℕ → TacStmt → Bool
-  reads x = fold-TacStmt Bool (reads_within table source x)
+  reads x = fold-TacStmt Bool (reads_within constants source x)
 
   abbrev Good : TacStmt → Type 0
   Good stmt = ((x : ℕ) → reads x stmt ≡ true → used x ≡ true) → test stmt ≡ true
@@ -49,21 +48,21 @@ module _ (table : ℕ → Assigned) (source : ℕ → ℕ) (used holds_word : �
 
   -- a statement without others inside
   alone : (k : TacStmt-F TacStmt) → list_all all_true (parts (map-TacStmt _ _ test k)) ≡ true →
-      (((x : ℕ) → reads_here table source x (map-TacStmt _ _ (reads x) k) ≡ true → used x ≡ true) →
-      reads_used table source used (map-TacStmt _ _ test k) ≡ true) →
-      ((x : ℕ) → reads_within table source x (map-TacStmt _ _ (reads x) k) ≡ true → used x ≡ true) →
-      with_parts (reads_used table source used) (map-TacStmt _ _ test k) ≡ true
-  alone k none own h = and_from (reads_used table source used (map-TacStmt _ _ test k)) _
-      (own (λ x r. h x (or_left (reads_here table source x (map-TacStmt _ _ (reads x) k)) _ r))) none
+      (((x : ℕ) → reads_here constants source x (map-TacStmt _ _ (reads x) k) ≡ true → used x ≡ true) →
+      reads_used constants source used (map-TacStmt _ _ test k) ≡ true) →
+      ((x : ℕ) → reads_within constants source x (map-TacStmt _ _ (reads x) k) ≡ true → used x ≡ true) →
+      with_parts (reads_used constants source used) (map-TacStmt _ _ test k) ≡ true
+  alone k none own h = and_from (reads_used constants source used (map-TacStmt _ _ test k)) _
+      (own (λ x r. h x (or_left (reads_here constants source x (map-TacStmt _ _ (reads x) k)) _ r))) none
 
   layer_good : (k : TacStmt-F TacStmt) → Inside Good k →
-      ((x : ℕ) → reads_within table source x (map-TacStmt _ _ (reads x) k) ≡ true → used x ≡ true) →
-      with_parts (reads_used table source used) (map-TacStmt _ _ test k) ≡ true
+      ((x : ℕ) → reads_within constants source x (map-TacStmt _ _ (reads x) k) ≡ true → used x ≡ true) →
+      with_parts (reads_used constants source used) (map-TacStmt _ _ test k) ≡ true
   layer_good (tac.Const dest value) i h = refl
   layer_good (tac.Copy dest from) i h = alone (tac.Copy dest from) refl (copy_is (source dest == source from)
       (source from)) h
   layer_good (tac.Op dest o left right) i h = alone (tac.Op dest o left right) refl
-      (unless_are (folded table o left right) (left ∷ one_or_none right)) h
+      (unless_are (folded constants o left right) (left ∷ one_or_none right)) h
   layer_good (tac.ObjectPlace dest object) i h = refl
   layer_good (tac.GlobalPlace dest global) i h = refl
   layer_good (tac.Load dest place pointer) i h = alone (tac.Load dest place pointer) refl (all_are (place ∷ [])) h
@@ -97,9 +96,9 @@ module _ (table : ℕ → Assigned) (source : ℕ → ℕ) (used holds_word : �
   layer_good (tac.Return value) i h = alone (tac.Return value) refl (all_are (one_or_none value)) h
 
   stmt_good : (stmt : TacStmt) → Good stmt
-  stmt_good = stmt_induction Good (λ k i h. fold-roll-TacStmt Bool (with_parts (reads_used table source used)) k
-      ∙ layer_good k i (λ x r. h x (fold-roll-TacStmt Bool (reads_within table source x) k ∙ r)))
+  stmt_good = stmt_induction Good (λ k i h. fold-roll-TacStmt Bool (with_parts (reads_used constants source used)) k
+      ∙ layer_good k i (λ x r. h x (fold-roll-TacStmt Bool (reads_within constants source x) k ∙ r)))
 
-  pub all_uses : (stmts : List TacStmt) → ((x : ℕ) → is_read table source stmts x ≡ true → used x ≡ true) →
+  pub all_uses : (stmts : List TacStmt) → ((x : ℕ) → is_read constants source stmts x ≡ true → used x ≡ true) →
       all_true (map test stmts) ≡ true
   all_uses stmts h = row_good stmts (everywhere_in Good stmt_good stmts) h

@@ -138,7 +138,7 @@ on_word_gives f (Word a) h = (Word (f a), refl)
 on_word_gives f Null h = no_word h
 on_word_gives f (Ptr p) h = no_word h
 
-module _ (table : ℕ → Assigned) (source : ℕ → ℕ) (used holds_word : ℕ → Bool) where
+module _ (holds_word : ℕ → Bool) where
   pub total_gives : (arith : Arith) → Fits arith → (blocks : Blocks) (o : TacOp) (left : ℕ) (right : Option ℕ)
       (v w : Value) → is_total holds_word o left right ≡ true → (holds_word left ≡ true → is_word v ≡ true) →
       (right_holds_word holds_word right ≡ true → is_word w ≡ true) → Gives (operated arith blocks o v w)

@@ -1,6 +1,7 @@
 -- A folded constant is a machine word, where the constants of the code are.
-use Rattle.std.proofs.Common.{Bool, Err, None, Ok, Option, Result, Some, [], ap, arith, bit_and, false, if◌then◌else◌}
-use Rattle.std.proofs.Common.{lt-ltb, ltb-true, nat_lt, refl, subst, sym, true, ℕ, ◌&&◌, ◌-◌, ◌<◌, ◌^◌, ◌∙◌, ◌≡◌}
+use Rattle.std.proofs.Common.{Bool, Err, None, Ok, Option, Result, Some, [], ap, arith, bit_and, eq-eqb, false}
+use Rattle.std.proofs.Common.{if◌then◌else◌, lt-ltb, ltb-true, nat_lt, refl, subst, suc, sym, true, zero, ℕ, ◌&&◌, ◌-◌}
+use Rattle.std.proofs.Common.{◌<◌, ◌^◌, ◌∙◌, ◌≡◌}
 use Rattle.sc_base.specs.declared.op.BinaryOp.{BinaryOp}
 use Rattle.sc_base.specs.declared.op.BinaryOp.TheVariants as op
 use Rattle.sc_base.specs.declared.op.UnaryOp.{UnaryOp}
@@ -18,10 +19,13 @@ use Rattle.sc_tac.specs.declared.stmt.Constant.{Constant}
 use Rattle.sc_tac.specs.declared.stmt.Constant.TheVariants as constant
 use Rattle.sc_tac.specs.declared.stmt.TacOp.{TacOp}
 use Rattle.sc_tac.specs.declared.stmt.TacOp.TheVariants as tacop
-use Rattle.sc_opt.specs.Pass.{constant_of, folded, folded_from, on_constants, second_constant, with_second}
+use Rattle.sc_opt.specs.Pass.{constant_by, constants_below, folded, folded_from, known_constant, on_constants}
+use Rattle.sc_opt.specs.Pass.{second_constant, with_second}
 use Rattle.sc_opt.specs.declared.facts.Assigned.{Assigned}
-use Rattle.sc_opt.specs.declared.facts.Assigned.TheVariants.{ByConstant, ByCopy, Nowhere, Otherwise, Several}
+use Rattle.sc_opt.specs.declared.facts.Assigned.TheVariants.{ByConstant, ByCopy, ByOperator, Nowhere, Otherwise}
+use Rattle.sc_opt.specs.declared.facts.Assigned.TheVariants.{Several}
 use Rattle.sc_opt.proofs.Fitting.{from_constant, wrapped}
+use Rattle.sc_opt.proofs.Joined.{decide}
 
 -- a value that is a word is one of the machine
 abbrev is_low : Value → Bool
@@ -107,27 +111,47 @@ on_machine_words o c d k h l e = machine_word k (wrapped_low o c d h l (constant
     (wrapped o (constant_value c) (constant_value d) (constant_value k)
     (from_constant (operated c_arith [] o (constant_value c) (constant_value d)) k e)))
 
-module _ (table : ℕ → Assigned) (source : ℕ → ℕ) (used holds_word : ℕ → Bool)
-    (words : (t : ℕ) (c : Constant) → table t ≡ ByConstant c → is_machine_word c ≡ true) where
+-- where the constants that are known are machine words
+module _ (constants : ℕ → Option Constant)
+    (words : (t : ℕ) (c : Constant) → constants t ≡ Some c → is_machine_word c ≡ true) where
   second_word : (o : TacOp) (c : Constant) → is_machine_word c ≡ true → (right : Option ℕ) (k : Constant) →
-      with_second table o c right ≡ Some k → is_machine_word k ≡ true
+      with_second constants o c right ≡ Some k → is_machine_word k ≡ true
   second_word o c low None k e = on_machine_words o c c k low low e
-  second_word o c low (Some t) k e = by (table t) refl e where
-    by : (x : Assigned) → table t ≡ x →
-        second_constant o c (constant_of x) ≡ Some k → is_machine_word k ≡ true
-    by (ByConstant d) is e = on_machine_words o c d k low (words t d is) e
-    by Nowhere is e = absurd (cc e)
-    by (ByCopy u) is e = absurd (cc e)
-    by Otherwise is e = absurd (cc e)
-    by Several is e = absurd (cc e)
+  second_word o c low (Some t) k e = by (constants t) refl e where
+    by : (x : Option Constant) → constants t ≡ x → second_constant o c x ≡ Some k → is_machine_word k ≡ true
+    by None is e = absurd (cc e)
+    by (Some d) is e = on_machine_words o c d k low (words t d is) e
 
   pub folded_word : (o : TacOp) (left : ℕ) (right : Option ℕ) (k : Constant) →
-      folded table o left right ≡ Some k → is_machine_word k ≡ true
-  folded_word o left right k e = by (table left) refl e where
-    by : (x : Assigned) → table left ≡ x →
-        folded_from table o (constant_of x) right ≡ Some k → is_machine_word k ≡ true
-    by (ByConstant c) is e = second_word o c (words left c is) right k e
-    by Nowhere is e = absurd (cc e)
-    by (ByCopy u) is e = absurd (cc e)
-    by Otherwise is e = absurd (cc e)
-    by Several is e = absurd (cc e)
+      folded constants o left right ≡ Some k → is_machine_word k ≡ true
+  folded_word o left right k e = by (constants left) refl e where
+    by : (x : Option Constant) → constants left ≡ x → folded_from constants o x right ≡ Some k →
+        is_machine_word k ≡ true
+    by None is e = absurd (cc e)
+    by (Some c) is e = second_word o c (words left c is) right k e
+
+-- as they are where those of the code are
+module _ (table : ℕ → Assigned)
+    (words : (t : ℕ) (c : Constant) → table t ≡ ByConstant c → is_machine_word c ≡ true) where
+  word_by : (n t : ℕ) (c : Constant) →
+      ((u : ℕ) (d : Constant) → constants_below table n u ≡ Some d → is_machine_word d ≡ true) →
+      (x : Assigned) → table t ≡ x → constant_by (constants_below table n) x ≡ Some c → is_machine_word c ≡ true
+  word_by n t c below Nowhere is e = absurd (cc e)
+  word_by n t c below (ByConstant d) is e =
+      let two : ◌≡◌ {A = Option Constant} (Some d) (Some c) = e in
+      let same : d ≡ c = cc two in words t c (is ∙ ap ByConstant same)
+  word_by n t c below (ByCopy u) is e = absurd (cc e)
+  word_by n t c below (ByOperator o left right) is e = folded_word (constants_below table n) below o left right c e
+  word_by n t c below Otherwise is e = absurd (cc e)
+  word_by n t c below Several is e = absurd (cc e)
+
+  words_below : (n t : ℕ) (c : Constant) → constants_below table n t ≡ Some c → is_machine_word c ≡ true
+  words_below zero t c e = absurd (cc e)
+  words_below (suc n) t c e = decide t n
+      (λ is. word_by n n c (words_below n) (table n) refl (sym (ap (λ b. if b then constant_by (constants_below table n)
+      (table n) else constants_below table n t) (eq-eqb t n is)) ∙ e))
+      (λ other. words_below n t c (sym (ap (λ b. if b then constant_by (constants_below table n) (table n)
+      else constants_below table n t) other) ∙ e))
+
+  pub known_words : (t : ℕ) (c : Constant) → known_constant table t ≡ Some c → is_machine_word c ≡ true
+  known_words t = words_below (suc t) t

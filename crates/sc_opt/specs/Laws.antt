@@ -1,6 +1,8 @@
 -- What is promised of the optimiser.
-use Rattle.std.specs.Prelude.{◌≡◌, ℕ, ◌≤◌, Bool, true, List, Some, slice_get}
+use Rattle.std.specs.Prelude.{◌≡◌, ℕ, ◌≤◌, Bool, true, List, [], ◌∷◌, map, Some, slice_get}
+use Rattle.sc_base.specs.declared.op.BinaryOp.TheVariants.{Add}
 use Rattle.sc_event.specs.declared.event.Event.{Event}
+use Rattle.sc_event.specs.declared.interface.Scalar.TheVariants.{Int}
 use Rattle.sc_event.specs.declared.row.Entry.{Entry}
 use Rattle.sc_core.specs.Prelude.{Arith, Roles, c_arith, run_step, scripted_step, within, wrapping}
 use Rattle.sc_core_laws.specs.Prelude.{BodiesAgree, Meets, RunsAgree}
@@ -8,7 +10,11 @@ use Rattle.sc_tac.specs.Prelude.{IsFunction, IsProgram, branches, code_denotatio
 use Rattle.sc_tac.specs.declared.function.TacFnTree.{TacFnTree}
 use Rattle.sc_tac.specs.declared.program.TacSection.{TacSection}
 use Rattle.sc_tac.specs.declared.program.TacTree.{TacTree}
-use Rattle.sc_opt.specs.Pass.{lean}
+use Rattle.sc_tac.specs.declared.stmt.Constant.TheVariants.{Word}
+use Rattle.sc_tac.specs.declared.stmt.TacOp.TheVariants.{Binary}
+use Rattle.sc_tac.specs.declared.stmt.TacStmt.{TacStmt, TacStmt-F, roll-TacStmt}
+use Rattle.sc_tac.specs.declared.stmt.TacStmt.TheOpen as tac
+use Rattle.sc_opt.specs.Pass.{lean, one_pass}
 use Rattle.sc_opt.specs.Optimised.{optimised_program, statements}
 
 -- Q of each function of a program
@@ -77,3 +83,14 @@ OptimiserKeepsShape = (program : TacTree) → KeepsShape program (optimised_prog
 -- and the rules
 abbrev pub OptimiserKeepsRules : Type 0
 OptimiserKeepsRules = (program : TacTree) → KeepsRules program → KeepsRules (optimised_program program)
+
+-- a chain of operators on constants goes in one pass: 1 + 2 + 3 + 4
+abbrev pub sum : ℕ → ℕ → ℕ → TacStmt-F TacStmt
+sum dest left right = tac.Op dest (Binary Add Int) left (Some right)
+
+abbrev pub chain : List (TacStmt-F TacStmt)
+chain = tac.Const 0 (Word 1) ∷ tac.Const 1 (Word 2) ∷ sum 2 0 1 ∷ tac.Const 3 (Word 3) ∷ sum 4 2 3
+    ∷ tac.Const 5 (Word 4) ∷ sum 6 4 5 ∷ tac.Output 6 ∷ []
+
+abbrev pub ChainGoesAtOnce : Type 0
+ChainGoesAtOnce = one_pass (map roll-TacStmt chain) ≡ map roll-TacStmt (tac.Const 6 (Word 10) ∷ tac.Output 6 ∷ [])

@@ -24,12 +24,14 @@ use Rattle.sc_tac.specs.declared.stmt.TacOp.TheVariants as tacop
 use Rattle.sc_tac.specs.declared.stmt.TacStmt.{TacStmt, TacStmt-F, fold-TacStmt, roll-TacStmt}
 use Rattle.sc_tac.specs.declared.stmt.TacStmt.TheOpen as tac
 use Rattle.sc_opt.specs.declared.facts.Assigned.{Assigned}
-use Rattle.sc_opt.specs.declared.facts.Assigned.TheVariants.{ByConstant, ByCopy, Nowhere, Otherwise, Several}
+use Rattle.sc_opt.specs.declared.facts.Assigned.TheVariants.{ByConstant, ByCopy, ByOperator, Nowhere, Otherwise}
+use Rattle.sc_opt.specs.declared.facts.Assigned.TheVariants.{Several}
 
 abbrev pub joined : Assigned → Assigned → Assigned
 joined Nowhere y = y
 joined (ByConstant c) Nowhere = ByConstant c
 joined (ByCopy u) Nowhere = ByCopy u
+joined (ByOperator o left right) Nowhere = ByOperator o left right
 joined Otherwise Nowhere = Otherwise
 joined x y = Several
 
@@ -41,6 +43,7 @@ abbrev pub is_once : Assigned → Bool
 is_once Nowhere = false
 is_once (ByConstant c) = true
 is_once (ByCopy u) = true
+is_once (ByOperator o left right) = true
 is_once Otherwise = true
 is_once Several = false
 
@@ -48,6 +51,7 @@ module _ (t : ℕ) where
   abbrev pub assigned_step : TacStmt-F Assigned → Assigned
   assigned_step (tac.Const dest value) = if dest == t then ByConstant value else Nowhere
   assigned_step (tac.Copy dest from) = if dest == t then ByCopy from else Nowhere
+  assigned_step (tac.Op dest o left right) = if dest == t then ByOperator o left right else Nowhere
   assigned_step (tac.If cond a b) = joined (all_joined a) (all_joined b)
   assigned_step (tac.Loop head body next) = joined (all_joined head) (joined (all_joined body) (all_joined next))
   assigned_step stmt = if is_one t (one_or_none (temp_assigned stmt)) then Otherwise else Nowhere
@@ -125,19 +129,35 @@ abbrev pub second_constant : TacOp → Constant → Option Constant → Option C
 second_constant o c None = None
 second_constant o c (Some d) = on_constants o c d
 
--- where temporaries are assigned so
-module _ (table : ℕ → Assigned) where
+-- where these constants are known
+module _ (constants : ℕ → Option Constant) where
   abbrev pub with_second : TacOp → Constant → Option ℕ → Option Constant
   with_second o c None = on_constants o c c
-  with_second o c (Some t) = second_constant o c (constant_of (table t))
+  with_second o c (Some t) = second_constant o c (constants t)
 
   abbrev pub folded_from : TacOp → Option Constant → Option ℕ → Option Constant
   folded_from o None right = None
   folded_from o (Some c) right = with_second o c right
 
-  -- what an operator gives on temporaries that are assigned in one place each, by constants
+  -- what an operator gives on temporaries
   abbrev pub folded : TacOp → ℕ → Option ℕ → Option Constant
-  folded o left right = folded_from o (constant_of (table left)) right
+  folded o left right = folded_from o (constants left) right
+
+  -- and what a temporary holds that is assigned so
+  abbrev pub constant_by : Assigned → Option Constant
+  constant_by (ByConstant c) = Some c
+  constant_by (ByOperator o left right) = folded o left right
+  constant_by _ = None
+
+-- The constants that temporaries hold wherever they are assigned: each by those of lower numbers.
+module _ (table : ℕ → Assigned) where
+  -- of the temporaries below a number
+  abbrev pub constants_below : ℕ → ℕ → Option Constant
+  constants_below zero t = None
+  constants_below (suc n) t = if t == n then constant_by (constants_below n) (table n) else constants_below n t
+
+  abbrev pub known_constant : ℕ → Option Constant
+  known_constant t = constants_below (suc t) t
 
 -- where these temporaries hold words alone
 module _ (holds_word : ℕ → Bool) where
@@ -164,13 +184,13 @@ module _ (source : ℕ → ℕ) (used holds_word : ℕ → Bool) where
       keep_if (used dest || not (is_total holds_word o left right))
       (tac.Op dest o (source left) (option_map source right))
 
-module _ (table : ℕ → Assigned) (source : ℕ → ℕ) (used holds_word : ℕ → Bool) where
+module _ (constants : ℕ → Option Constant) (source : ℕ → ℕ) (used holds_word : ℕ → Bool) where
   -- what becomes of a statement, unless it goes
   abbrev pub pass_step : TacStmt-F (Option TacStmt) → Option TacStmt
   pass_step (tac.Const dest value) = keep_if (used dest) (tac.Const dest value)
   pass_step (tac.Copy dest from) = keep_if (not (source dest == source from) && used dest) (tac.Copy dest (source from))
   pass_step (tac.Op dest o left right) = operator_code source used holds_word dest o left right
-      (folded table o left right)
+      (folded constants o left right)
   pass_step (tac.ObjectPlace dest object) = keep_if (used dest) (tac.ObjectPlace dest object)
   pass_step (tac.GlobalPlace dest global) = keep_if (used dest) (tac.GlobalPlace dest global)
   pass_step (tac.Load dest place pointer) = keep (tac.Load dest (source place) pointer)
@@ -203,11 +223,11 @@ module _ (source : ℕ → ℕ) (used : ℕ → Bool) where
   unless_folded (Some c) temps = true
   unless_folded None temps = all_used temps
 
-module _ (table : ℕ → Assigned) (source : ℕ → ℕ) (used : ℕ → Bool) where
+module _ (constants : ℕ → Option Constant) (source : ℕ → ℕ) (used : ℕ → Bool) where
   abbrev pub reads_used : TacStmt-F Bool → Bool
   reads_used (tac.Copy dest from) = source dest == source from || used (source from)
   reads_used (tac.Op dest o left right) =
-      unless_folded source used (folded table o left right) (left ∷ one_or_none right)
+      unless_folded source used (folded constants o left right) (left ∷ one_or_none right)
   reads_used stmt = all_used source used (temps_read stmt)
 
 -- whether the code that the pass gives reads a temporary, where what can't be blamed hasn't gone yet
@@ -219,11 +239,11 @@ module _ (source : ℕ → ℕ) where
   reads_unless (Some c) x temps = false
   reads_unless None x temps = reads_some x temps
 
-module _ (table : ℕ → Assigned) (source : ℕ → ℕ) where
+module _ (constants : ℕ → Option Constant) (source : ℕ → ℕ) where
   abbrev pub reads_here : ℕ → TacStmt-F Bool → Bool
   reads_here x (tac.Copy dest from) = not (source dest == source from) && source from == x
   reads_here x (tac.Op dest o left right) =
-      reads_unless source (folded table o left right) x (left ∷ one_or_none right)
+      reads_unless source (folded constants o left right) x (left ∷ one_or_none right)
   reads_here x stmt = reads_some source x (temps_read stmt)
 
   abbrev pub reads_within : ℕ → TacStmt-F Bool → Bool
@@ -271,7 +291,9 @@ always_word body t = everywhere (assigns_words t) body
 abbrev pub one_pass : List TacStmt → List TacStmt
 one_pass body =
     let table = table_of body in
-    passed table (copy_source table) (is_read table (copy_source table) body) (always_word body) body
+    let constants = known_constant table in
+    let source = copy_source table in
+    passed constants source (is_read constants source body) (always_word body) body
 
 -- LEAN CODE
 -- a temporary is read in these statements
@@ -292,7 +314,7 @@ module _ (table : ℕ → Assigned) (reads holds_word : ℕ → Bool) where
   is_lean (tac.Const dest value) = reads dest
   is_lean (tac.Copy dest from) = not (is_once (table dest) && is_once (table from)) && reads dest
   is_lean (tac.Op dest o left right) =
-      is_none (folded table o left right)
+      is_none (folded (λ t. constant_of (table t)) o left right)
       && (reads dest || not (is_total holds_word o left right))
   is_lean (tac.ObjectPlace dest object) = reads dest
   is_lean (tac.GlobalPlace dest global) = reads dest
@@ -302,12 +324,12 @@ abbrev pub lean : List TacStmt → Bool
 lean body = everywhere (is_lean (table_of body) (is_read_by body) (always_word body)) body
 
 -- the pass leaves a statement as it is, but for where it reads
-module _ (table : ℕ → Assigned) (source : ℕ → ℕ) (used holds_word : ℕ → Bool) where
+module _ (constants : ℕ → Option Constant) (source : ℕ → ℕ) (used holds_word : ℕ → Bool) where
   abbrev pub is_kept : TacStmt-F Bool → Bool
   is_kept (tac.Const dest value) = used dest
   is_kept (tac.Copy dest from) = not (source dest == source from) && used dest
   is_kept (tac.Op dest o left right) =
-      is_none (folded table o left right) && (used dest || not (is_total holds_word o left right))
+      is_none (folded constants o left right) && (used dest || not (is_total holds_word o left right))
   is_kept (tac.ObjectPlace dest object) = used dest
   is_kept (tac.GlobalPlace dest global) = used dest
   is_kept stmt = true

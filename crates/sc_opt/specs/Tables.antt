@@ -10,8 +10,7 @@ use Rattle.sc_tac.specs.declared.stmt.TacOp.{TacOp}
 use Rattle.sc_tac.specs.declared.stmt.TacStmt.{TacStmt, fold-TacStmt}
 use Rattle.sc_tac.specs.declared.stmt.TacStmt.TheVariants as emit
 use Rattle.sc_opt.specs.Pass.{assigned, assigned_in, assigns_words, copy_source, folded, is_read, is_total, joined}
-use Rattle.sc_opt.specs.Pass.{pass}
-use Rattle.sc_opt.specs.Pass.{present, reads_within}
+use Rattle.sc_opt.specs.Pass.{known_constant, pass, present, reads_within}
 use Rattle.sc_opt.specs.declared.facts.Assigned.{Assigned}
 use Rattle.sc_opt.specs.declared.facts.Assigned.TheVariants.{Nowhere}
 use Rattle.sc_opt.specs.declared.facts.Facts.{Facts}
@@ -56,6 +55,9 @@ assigned_at facts t = (facts_at facts t).assigned
 abbrev pub holds_word_at : List Facts → ℕ → Bool
 holds_word_at facts t = (facts_at facts t).holds_word
 
+abbrev pub constant_at : List (Option Constant) → ℕ → Option Constant
+constant_at constants t = unwrap_or (slice_get constants t) None
+
 abbrev pub source_at : List ℕ → ℕ → ℕ
 source_at sources t = unwrap_or (slice_get sources t) t
 
@@ -66,13 +68,13 @@ used_at used t = unwrap_or (slice_get used t) false
 abbrev pub marked : Bool → Option Bool → Option Bool
 marked here known = if here then option_map (λ used. true) known else known
 
-module _ (table : ℕ → Assigned) (source : ℕ → ℕ) where
+module _ (constants : ℕ → Option Constant) (source : ℕ → ℕ) where
   abbrev pub reads_stmt : ℕ → TacStmt → Bool
-  reads_stmt x = fold-TacStmt Bool (reads_within table source x)
+  reads_stmt x = fold-TacStmt Bool (reads_within constants source x)
 
   -- what statements read is marked too
   pub record MarksAll (stmts : List TacStmt) (before after : List Bool) : Type 0 where
-    pub at : (x : ℕ) → slice_get after x ≡ marked (is_read table source stmts x) (slice_get before x)
+    pub at : (x : ℕ) → slice_get after x ≡ marked (is_read constants source stmts x) (slice_get before x)
 
   pub record MarksStmt (stmt : TacStmt) (before after : List Bool) : Type 0 where
     pub at : (x : ℕ) → slice_get after x ≡ marked (reads_stmt x stmt) (slice_get before x)
@@ -80,7 +82,7 @@ module _ (table : ℕ → Assigned) (source : ℕ → ℕ) where
 -- the pass that the tables describe
 abbrev pub pass_by : Tables → TacStmt → Option TacStmt
 pass_by tables =
-    pass (assigned_at tables.origins.facts) (source_at tables.origins.sources) (used_at tables.marks)
+    pass (constant_at tables.origins.constants) (source_at tables.origins.sources) (used_at tables.marks)
     (holds_word_at tables.origins.facts)
 
 abbrev pub passed_by : Tables → List TacStmt → List TacStmt
@@ -102,11 +104,13 @@ operator_from tables dest o left right None =
 
 abbrev pub operator_by : Tables → ℕ → TacOp → ℕ → Option ℕ → Option TacStmt
 operator_by tables dest o left right =
-    operator_from tables dest o left right (folded (assigned_at tables.origins.facts) o left right)
+    operator_from tables dest o left right (folded (constant_at tables.origins.constants) o left right)
 
 -- the tables say what the code is like
 pub record Tell (temps : ℕ) (body : List TacStmt) (tables : Tables) : Type 0 where
   pub facts : Notes temps body tables.origins.facts
+  pub constants : tables.origins.constants
+      ≡ map (known_constant (assigned_at tables.origins.facts)) (range_with_len 0 temps)
   pub sources : tables.origins.sources ≡ map (copy_source (assigned_at tables.origins.facts)) (range_with_len 0 temps)
-  pub marks : MarksAll (assigned_at tables.origins.facts) (source_at tables.origins.sources) body
+  pub marks : MarksAll (constant_at tables.origins.constants) (source_at tables.origins.sources) body
       (replicate temps false) tables.marks

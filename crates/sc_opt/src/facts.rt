@@ -3,7 +3,7 @@
 ghost use Rattle.sc_opt.specs.Prelude.{Notes, NotesAll, NotesStmt, gives_word, is_word_constant, joined, noted};
 ghost use Rattle.sc_opt.specs.Prelude.{nothing_known, with_fact};
 ghost use Rattle.sc_tac.specs.Prelude.{is_one, one_or_none};
-ghost use Rattle.sc_opt.specs.declared.facts.Assigned.TheVariants.{Otherwise};
+ghost use Rattle.sc_opt.specs.declared.facts.Assigned.TheVariants.{ByOperator, Otherwise};
 ghost use Rattle.std.specs.Prelude.{◌≡◌, ◌==◌, ℕ, false, slice_get, replicate, IfOk};
 
 use sc_base::{OutOfMemory, UnaryOp};
@@ -11,13 +11,18 @@ use sc_tac::{Constant, TacOp, TacStmt, TacStmts};
 use sqlite_items::Items;
 use std::alloc::Global;
 
-/// How the code of a function assigns a temporary: nowhere; in one place, by a constant, by a copy of another, or
-/// otherwise; or in several places.
+/// How the code of a function assigns a temporary: nowhere; in one place, by a constant, by a copy of another, by an
+/// operator, or otherwise; or in several places.
 #[derive(Clone, Copy, Debug, PartialEq, Eq)]
 pub enum Assigned {
     Nowhere,
     ByConstant(Constant),
     ByCopy(u32),
+    ByOperator {
+        op: TacOp,
+        left: u32,
+        right: Option<u32>,
+    },
     Otherwise,
     Several,
 }
@@ -82,6 +87,19 @@ fn gives_word(op: TacOp) -> bool
     }
 }
 
+// An operator assigns a temporary.
+fn note_operator(table: &mut FactTable, dest: u32, op: TacOp, left: u32, right: Option<u32>)
+    ensures { (t : ℕ) → slice_get table.new t ≡ noted (dest == t) (ByOperator op left right) (gives_word op)
+        (slice_get table.old t) }
+{
+    note(
+        table,
+        dest,
+        Assigned::ByOperator { op, left, right },
+        gives_word(op),
+    );
+}
+
 fn is_word(value: Constant) -> bool
     ensures { result ≡ is_word_constant value }
 {
@@ -109,7 +127,12 @@ fn note_stmt(table: &mut FactTable, stmt: &TacStmt)
             note(table, *dest, Assigned::ByConstant(*value), is_word(*value));
         }
         TacStmt::Copy { dest, from } => note(table, *dest, Assigned::ByCopy(*from), false),
-        TacStmt::Op { dest, op, .. } => note(table, *dest, Assigned::Otherwise, gives_word(*op)),
+        TacStmt::Op {
+            dest,
+            op,
+            left,
+            right,
+        } => note_operator(table, *dest, *op, *left, *right),
         TacStmt::ObjectPlace { dest, .. } => note(table, *dest, Assigned::Otherwise, false),
         TacStmt::GlobalPlace { dest, .. } => note(table, *dest, Assigned::Otherwise, false),
         TacStmt::Load { dest, pointer, .. } => {

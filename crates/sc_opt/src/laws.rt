@@ -1,6 +1,7 @@
 // The laws, each the contract of a function with nothing to do.
 
-ghost use Rattle.sc_opt.specs.Prelude.{OptimiserKeepsMeaning, OptimiserKeepsRules, OptimiserKeepsShape, ResultsAreLean};
+ghost use Rattle.sc_opt.specs.Prelude.{ChainGoesAtOnce, OptimiserKeepsMeaning, OptimiserKeepsRules};
+ghost use Rattle.sc_opt.specs.Prelude.{OptimiserKeepsShape, ResultsAreLean};
 
 /// In each arithmetic an optimised program has the same traces, ends and stack depths, also where compartments perform
 /// their parts of a trace.
@@ -26,4 +27,10 @@ pub fn optimiser_keeps_shape()
 #[tactic(auto, using(crate::proofs::Promises::optimiser_keeps_rules))]
 pub fn optimiser_keeps_rules()
     ensures { OptimiserKeepsRules }
+{}
+
+/// A chain of operators on constants becomes one constant in one pass.
+#[tactic(auto, using(crate::proofs::Chaining::chain_goes_at_once))]
+pub fn chain_goes_at_once()
+    ensures { ChainGoesAtOnce }
 {}

@@ -3,6 +3,7 @@
 
 mod constants;
 mod facts;
+mod known;
 mod laws;
 mod pass;
 mod program;
@@ -10,6 +11,7 @@ mod sources;
 mod uses;
 
 pub use laws::{
-    optimiser_keeps_meaning, optimiser_keeps_rules, optimiser_keeps_shape, results_are_lean,
+    chain_goes_at_once, optimiser_keeps_meaning, optimiser_keeps_rules, optimiser_keeps_shape,
+    results_are_lean,
 };
 pub use program::optimise;

@@ -8,8 +8,9 @@ ghost use Rattle.std.specs.Prelude.{◌≡◌, ◌&&◌, ◌++◌, ◌∷◌, []
 ghost use Rattle.std.specs.Option.{option_map};
 
 use crate::facts::{FactTable, facts_of};
+use crate::known::{folded, known_constants};
 use crate::sources::{facts_at, source_at, sources_of};
-use crate::uses::{Marks, Origins, folded, uses_of};
+use crate::uses::{Marks, Origins, uses_of};
 use sc_base::{BinaryOp, OutOfMemory, UnaryOp};
 use sc_event::Scalar;
 use sc_tac::{ObjectCells, TacFn, TacFnTree, TacOp, TacStmt, TacStmts, Temps};
@@ -135,7 +136,7 @@ fn pass_operator(
 {
     let facts = &tables.origins.facts;
     let used = tables.is_used(dest);
-    match folded(facts, op, left, right) {
+    match folded(&tables.origins.constants, op, left, right) {
         Some(value) => keep(used, TacStmt::Const { dest, value }),
         None => {
             let kept = used || !is_total(facts, op, left, right);
@@ -271,8 +272,13 @@ fn tables_of(alloc: Global, temps: u32, body: &TacStmts) -> Result<Tables, OutOf
     ensures { IfOk result (Tell temps body.now) }
 {
     let facts = facts_of(alloc, temps, body)?;
+    let constants = known_constants(alloc, temps, &facts)?;
     let sources = sources_of(alloc, temps, &facts)?;
-    let origins = Origins { facts, sources };
+    let origins = Origins {
+        facts,
+        constants,
+        sources,
+    };
     let marks = uses_of(alloc, temps, &origins, body)?;
     Ok(Tables { origins, marks })
 }

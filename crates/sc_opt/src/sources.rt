@@ -40,7 +40,7 @@ fn is_once(assigned: Assigned) -> bool
 {
     match assigned {
         Assigned::Nowhere | Assigned::Several => false,
-        Assigned::ByConstant(_) | Assigned::ByCopy(_) | Assigned::Otherwise => true,
+        _ => true,
     }
 }
 

@@ -1,50 +1,28 @@
 //! Which temporaries are read once operators on constants are folded and copies read where they come from.
 
-ghost use Rattle.sc_opt.specs.Prelude.{MarksAll, MarksStmt, assigned_at, constant_of, folded, marked};
+ghost use Rattle.sc_opt.specs.Prelude.{MarksAll, MarksStmt, constant_at, folded, marked};
 ghost use Rattle.sc_opt.specs.Prelude.{reads_some, reads_unless, source_at};
 ghost use Rattle.sc_tac.specs.Prelude.{one_or_none};
 ghost use Rattle.std.specs.Prelude.{◌≡◌, ◌==◌, ◌&&◌, ◌∷◌, ℕ, false, not, slice_get, replicate, IfOk};
 
-use crate::constants::on_constants;
-use crate::facts::{Assigned, FactTable};
-use crate::sources::{Sources, facts_at, source_at};
+use crate::facts::FactTable;
+use crate::known::{Constants, folded};
+use crate::sources::{Sources, source_at};
 use sc_base::OutOfMemory;
-use sc_tac::{Constant, TacOp, TacStmt, TacStmts};
+use sc_tac::{TacOp, TacStmt, TacStmts};
 use sqlite_items::Items;
 use std::alloc::Global;
 
-/// How temporaries are assigned, and where they are read.
+/// How temporaries are assigned, what is known of their values, and where they are read.
 #[derive(Drop)]
 pub struct Origins {
     pub facts: FactTable,
+    pub constants: Constants,
     pub sources: Sources,
 }
 
 /// Of each temporary below some number whether it is read.
 pub type Marks = Items<bool>;
-
-fn constant_of(assigned: Assigned) -> Option<Constant>
-    ensures { result ≡ constant_of assigned }
-{
-    match assigned {
-        Assigned::ByConstant(value) => Some(value),
-        _ => None,
-    }
-}
-
-/// What an operator gives where its operands are assigned in one place each, by constants.
-pub fn folded(facts: &FactTable, op: TacOp, left: u32, right: Option<u32>) -> Option<Constant>
-    ensures { result ≡ folded (assigned_at facts.now) op left right }
-{
-    let first = constant_of(facts_at(facts, left).assigned)?;
-    match right {
-        None => on_constants(op, first, first),
-        Some(right) => {
-            let second = constant_of(facts_at(facts, right).assigned)?;
-            on_constants(op, first, second)
-        }
-    }
-}
 
 // A temporary is read where it comes from.
 fn mark(origins: &Origins, marks: &mut Marks, temp: u32)
@@ -89,10 +67,10 @@ fn mark_copy(origins: &Origins, marks: &mut Marks, dest: u32, from: u32)
 // Nor does an operator that is folded.
 fn mark_operator(origins: &Origins, marks: &mut Marks, op: TacOp, left: u32, right: Option<u32>)
     ensures { (x : ℕ) → slice_get marks.new x ≡
-        marked (reads_unless (source_at origins.now.sources) (folded (assigned_at origins.now.facts) op left right) x
-        (left ∷ one_or_none right)) (slice_get marks.old x) }
+        marked (reads_unless (source_at origins.now.sources) (folded (constant_at origins.now.constants) op left right)
+        x (left ∷ one_or_none right)) (slice_get marks.old x) }
 {
-    if folded(&origins.facts, op, left, right).is_none() {
+    if folded(&origins.constants, op, left, right).is_none() {
         mark(origins, marks, left);
         mark_maybe(origins, marks, right);
     }
@@ -100,7 +78,8 @@ fn mark_operator(origins: &Origins, marks: &mut Marks, op: TacOp, left: u32, rig
 
 #[cycle(mark)]
 fn mark_all(origins: &Origins, marks: &mut Marks, stmts: &TacStmts)
-    ensures { MarksAll (assigned_at origins.now.facts) (source_at origins.now.sources) stmts.now marks.old marks.new }
+    ensures { MarksAll (constant_at origins.now.constants) (source_at origins.now.sources) stmts.now marks.old
+        marks.new }
 {
     for stmt in stmts.as_slice() {
         mark_stmt(origins, marks, stmt);
@@ -109,7 +88,8 @@ fn mark_all(origins: &Origins, marks: &mut Marks, stmts: &TacStmts)
 
 #[cycle(mark)]
 fn mark_stmt(origins: &Origins, marks: &mut Marks, stmt: &TacStmt)
-    ensures { MarksStmt (assigned_at origins.now.facts) (source_at origins.now.sources) stmt.now marks.old marks.new }
+    ensures { MarksStmt (constant_at origins.now.constants) (source_at origins.now.sources) stmt.now marks.old
+        marks.new }
 {
     match stmt {
         TacStmt::Copy { dest, from } => mark_copy(origins, marks, *dest, *from),
@@ -158,8 +138,8 @@ pub fn uses_of(
     origins: &Origins,
     body: &TacStmts,
 ) -> Result<Marks, OutOfMemory>
-    ensures { IfOk result (λ marks. MarksAll (assigned_at origins.now.facts) (source_at origins.now.sources) body.now
-        (replicate temps false) marks) }
+    ensures { IfOk result (λ marks. MarksAll (constant_at origins.now.constants) (source_at origins.now.sources)
+        body.now (replicate temps false) marks) }
 {
     let mut marks = no_marks(alloc, temps)?;
     mark_all(origins, &mut marks, body);

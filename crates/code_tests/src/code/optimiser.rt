@@ -64,6 +64,21 @@ fn constants_are_folded(rt: HostRuntime) -> Result<(), Fail> {
 }
 
 #[test]
+fn long_chains_are_folded(rt: HostRuntime) -> Result<(), Fail> {
+    let mut expr = Vec::new(rt.alloc());
+    expr.extend_from_slice(b"1")?;
+    for _ in 0..250 {
+        expr.extend_from_slice(b" + 1")?;
+    }
+    let text = with_output(rt.alloc(), expr.as_slice())?;
+    let code = optimise(rt.alloc(), &lowered(rt.alloc(), text.as_slice())?)?;
+    let found = body(&code);
+    assert_eq!(rt; found.len(), 4);
+    assert!(rt; found.first().is_some_and(|stmt| is_constant(stmt, 251)));
+    Ok(())
+}
+
+#[test]
 fn what_is_undefined_stays(rt: HostRuntime) -> Result<(), Fail> {
     let cases: [&[u8]; 5] = [
         b"1 / 0",
