@@ -5,7 +5,7 @@ bench/meaning.sh, and one each with a constant expression, copies of variables, 
 Usage: turns.py PROGRAM [BEFORE]. PROGRAM is a built secomp, BEFORE one whose `compile` leaves the optimiser out. Where
 riscv64-unknown-elf-gcc (package gcc-riscv64-unknown-elf) isn't on the path, its columns are empty. secomp's figure is the
 difference of the steps that the machine takes for 200 and for 100 rounds, by halves; gcc's is the number of instructions from
-the loop's label to its branch, and those of the function that it calls.
+the loop's label to its branch, and those of the function that it calls; 0 where no loop is left.
 """
 import re
 import shutil
@@ -58,10 +58,13 @@ def by_gcc(name, level):
         command = [GCC, "-march=rv32im", "-mabi=ilp32", level, "-S", "-o", "-", source.name]
         lines = subprocess.run(command, capture_output=True, text=True, check=True).stdout.splitlines()
     main = lines[lines.index("main:"):]
-    back = [(i, line.split(",")[-1].strip()) for i, line in enumerate(main) if re.match(r"\tb[a-z]+\t", line)]
-    last, label = back[-1]
-    count = instructions(main[main.index(label + ":"):last + 1])
-    if "next:" in lines:
+    branches = [(i, line.split(",")[-1].strip() + ":") for i, line in enumerate(main) if re.match(r"\tb[a-z]+\t", line)]
+    back = [(i, main.index(label)) for i, label in branches if label in main[:i]]
+    if not back:
+        return 0
+    last, first = back[-1]
+    count = instructions(main[first:last + 1])
+    if any("next" in line for line in main[first:last + 1]):
         called = lines[lines.index("next:"):]
         count += instructions(called[:called.index("\tjr\tra") + 1])
     return count
