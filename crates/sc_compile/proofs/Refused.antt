@@ -3,7 +3,7 @@ use Rattle.sc_compile.proofs.Common.{All, Bool, HasNoTests, ImageParts, IsCompil
 use Rattle.sc_compile.proofs.Common.{Some, TypedFunction, TypedSection, [], ap, ap₂, arith, c_arith, cond, count_by}
 use Rattle.sc_compile.proofs.Common.{false}
 use Rattle.sc_compile.proofs.Common.{frame_bound, if◌then◌else◌, is_branch, leb-true, machine, nodes, program_nodes}
-use Rattle.sc_compile.proofs.Common.{refl, subst, suc, sym, test_word, true, variables, zero, ℕ, ⊎_elim, ◌&&◌, ◌*◌}
+use Rattle.sc_compile.proofs.Common.{refl, suc, sym, test_word, true, variables, zero, ℕ, ⊎_elim, ◌&&◌, ◌*◌}
 use Rattle.sc_compile.proofs.Common.{◌++◌}
 use Rattle.sc_compile.proofs.Common.{◌+◌, ◌<◌, ◌==◌, ◌∙◌, ◌∷◌, ◌≡◌, ◌≤◌}
 use Rattle.std.specs.Prelude.{codes, max, ◌-◌}
@@ -12,7 +12,6 @@ use Rattle.std.proofs.lemmas.List.Elements.{All-head, All-nil, All-tail}
 use Rattle.sc_base.specs.declared.op.BinaryOp.TheVariants.{Div}
 use Rattle.sc_base.specs.declared.stop.Stop.{Stop}
 use Rattle.sc_base.specs.declared.stop.TrapReason.{TrapReason}
-use Rattle.sc_event.specs.declared.event.Event.{Event}
 use Rattle.sc_event.specs.declared.event.Event.TheVariants.{End}
 use Rattle.sc_core.specs.Prelude.{depth_by, meaning_by}
 use Rattle.sc_core.specs.declared.expr.TypedExpr.{TypedExpr}

@@ -9,12 +9,12 @@ use Rattle.sc_compile.proofs.Common.{slice_get-map, subst, sym, wrapping, â„•, â
 use Rattle.std.proofs.Common.{Bool}
 use Rattle.sc_core.specs.Prelude.{denotations_of, run_step, scripted_step, within}
 use Rattle.sc_core_laws.specs.Agreement.{BehavioursAgree}
-use Rattle.sc_core_laws.specs.Prelude.{BodiesAgree, PiecesAgree, RunsAgree}
+use Rattle.sc_core_laws.specs.Prelude.{BodiesAgree, RunsAgree}
 use Rattle.sc_core.specs.declared.run.SourceRun.{SourceRun}
 use Rattle.sc_tac.specs.Prelude.{branches as code_ifs, code_denotations}
 use Rattle.sc_lower.proofs.Entries.{first_at}
 use Rattle.sc_lower.specs.Prelude.{MeansTheSame}
-use Rattle.sc_opt.specs.Prelude.{KeepsRules, RunsAlike, optimised_function, optimised_program, optimised_section}
+use Rattle.sc_opt.specs.Prelude.{KeepsRules, RunsAlike, optimised_function, optimised_section}
 use Rattle.sc_opt.proofs.Passes.{fewer_branches, optimised_keeps_rules}
 use Rattle.sc_opt.proofs.Promises.{optimiser_keeps_meaning, optimiser_keeps_rules}
 use Rattle.sc_compile.proofs.Lists.{map_twice, mapped}

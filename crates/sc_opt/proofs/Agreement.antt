@@ -1,6 +1,6 @@
 -- What is known where control stands in the code and in what the pass gives of it.
-use Rattle.std.proofs.Common.{Bool, List, None, Option, Some, [], ap, false, inl, inr, refl, subst, sym, true, ℕ, ◌==◌}
-use Rattle.std.proofs.Common.{◌∙◌, ◌∷◌, ◌≡◌, ◌⊎◌}
+use Rattle.std.proofs.Common.{Bool, None, Option, Some, ap, false, inl, inr, refl, subst, sym, true, ℕ, ◌==◌}
+use Rattle.std.proofs.Common.{◌∙◌, ◌≡◌, ◌⊎◌}
 use Rattle.sc_core.specs.Prelude.{is_word}
 use Rattle.sc_core.specs.declared.value.Value.{Value}
 use Rattle.sc_tac.specs.Prelude.{TempSet, Temps, constant_value, no_temps, with_temp}

@@ -1,7 +1,7 @@
 -- Each temporary whose constant is known is assigned in one place, by a constant or by an operator on such.
-use Rattle.std.proofs.Common.{Bool, List, None, Option, Some, ap, arith, eq-eqb, eqb-true, false, if◌then◌else◌, inl}
+use Rattle.std.proofs.Common.{Bool, None, Option, Some, ap, arith, eq-eqb, false, if◌then◌else◌, inl}
 use Rattle.std.proofs.Common.{inr}
-use Rattle.std.proofs.Common.{refl, subst, suc, sym, true, zero, ℕ, ◌<◌, ◌==◌, ◌∙◌, ◌≡◌, ◌≤◌, ◌⊎◌}
+use Rattle.std.proofs.Common.{refl, suc, sym, true, zero, ℕ, ◌<◌, ◌∙◌, ◌≡◌, ◌≤◌, ◌⊎◌}
 use Rattle.sc_tac.specs.declared.stmt.Constant.{Constant}
 use Rattle.sc_tac.specs.declared.stmt.TacOp.{TacOp}
 use Rattle.sc_opt.specs.Pass.{constant_by, constant_of, constants_below, folded, folded_from, is_none, known_constant}

@@ -5,7 +5,7 @@ use Rattle.sc_tac.specs.declared.stmt.Constant.{Constant}
 use Rattle.sc_tac.specs.declared.stmt.TacStmt.{TacStmt, TacStmt-F, fold-TacStmt, fold-roll-TacStmt, map-TacStmt}
 use Rattle.sc_tac.specs.declared.stmt.TacStmt.{roll-TacStmt}
 use Rattle.sc_opt.specs.Laws.{ChainGoesAtOnce, chain}
-use Rattle.sc_opt.specs.Pass.{all_joined, always_word, assigned, assigned_step, copy_source, is_read, known_constant}
+use Rattle.sc_opt.specs.Pass.{all_joined, always_word, assigned_step, copy_source, is_read, known_constant}
 use Rattle.sc_opt.specs.Pass.{pass_step, passed, present, reads_within, table_of}
 use Rattle.sc_opt.specs.declared.facts.Assigned.{Assigned}
 

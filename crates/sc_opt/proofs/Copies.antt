@@ -1,6 +1,6 @@
 -- Each temporary that is read elsewhere is a copy, and is read where its source is.
 use Rattle.std.proofs.Common.{Bool, ap, arith, eq-eqb, eqb-true, false, if◌then◌else◌, inl, inr, ltb-true, nat_lt, refl}
-use Rattle.std.proofs.Common.{subst, suc, sym, true, zero, ℕ, ◌<◌, ◌==◌, ◌∙◌, ◌≡◌, ◌⊎◌}
+use Rattle.std.proofs.Common.{suc, sym, true, zero, ℕ, ◌<◌, ◌==◌, ◌∙◌, ◌≡◌, ◌⊎◌}
 use Rattle.sc_opt.specs.Pass.{copies_one, is_once, source_by, copy_source, copy_sources}
 use Rattle.sc_opt.proofs.Joined.{not_same}
 use Rattle.sc_opt.proofs.Agreement.{AreSources, Moved}

@@ -1,6 +1,6 @@
 -- The pass adds no statement and no branch.
-use Rattle.std.proofs.Common.{Bool, List, None, Option, Some, [], ap, arith, false, map, refl, subst, suc, sym, true, ℕ}
-use Rattle.std.proofs.Common.{◌&&◌, ◌+◌, ◌∙◌, ◌∷◌, ◌≡◌, ◌≤◌}
+use Rattle.std.proofs.Common.{Bool, List, None, Option, Some, [], arith, false, map, refl, subst, suc, sym, true, ℕ}
+use Rattle.std.proofs.Common.{◌+◌, ◌∙◌, ◌∷◌, ◌≡◌, ◌≤◌}
 use Rattle.std.specs.Option.{option_map}
 use Rattle.sc_core.proofs.Induction.{Each, everywhere as everywhere_in}
 use Rattle.sc_core.specs.Prelude.{total}

@@ -1,5 +1,5 @@
 -- How control leaves the code of a function that promises a value: with one, where it returns.
-use Rattle.std.proofs.Common.{Bool, List, None, Option, Some, [], ap, false, if◌then◌else◌, is_some, map, refl, subst}
+use Rattle.std.proofs.Common.{Bool, List, None, Some, [], ap, false, map, refl, subst}
 use Rattle.std.proofs.Common.{suc, sym, true, zero, ℕ, ◌∙◌, ◌∷◌, ◌≡◌}
 use Rattle.std.specs.Bool.{beq}
 use Rattle.sc_base.proofs.Bools.{and_first, and_rest}

@@ -1,5 +1,5 @@
 -- Both arithmetics fit: where C computes something of constants, so does the one that wraps.
-use Rattle.std.proofs.Common.{Err, None, Ok, Option, Result, Some, [], ap, false, if◌then◌else◌, refl, subst, sym, true}
+use Rattle.std.proofs.Common.{Err, Ok, Option, Result, Some, [], ap, false, if◌then◌else◌, refl, sym, true}
 use Rattle.std.proofs.Common.{ℕ, ◌&&◌, ◌∙◌, ◌≡◌, Bool}
 use Rattle.sc_base.specs.declared.op.BinaryOp.{BinaryOp}
 use Rattle.sc_base.specs.declared.op.BinaryOp.TheVariants as op

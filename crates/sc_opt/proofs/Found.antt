@@ -1,6 +1,6 @@
 -- What code tests of each statement holds of the one that alone assigns a temporary, by a constant or by a copy.
-use Rattle.std.proofs.Common.{Bool, List, None, Option, Some, [], ap, eqb-true, false, if◌then◌else◌, map, refl, subst}
-use Rattle.std.proofs.Common.{sym, true, ℕ, ◌&&◌, ◌==◌, ◌||◌, ◌∙◌, ◌∷◌, ◌≡◌}
+use Rattle.std.proofs.Common.{Bool, List, None, Some, [], eqb-true, false, if◌then◌else◌, map, refl, subst}
+use Rattle.std.proofs.Common.{sym, true, ℕ, ◌==◌, ◌||◌, ◌∙◌, ◌∷◌, ◌≡◌}
 use Rattle.sc_base.proofs.Bools.{and_first, and_rest}
 use Rattle.sc_core.proofs.Induction.{Each, everywhere as everywhere_in}
 use Rattle.sc_tac.proofs.Induction.{Inside, stmt_induction}

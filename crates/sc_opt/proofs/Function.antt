@@ -1,6 +1,6 @@
 -- A function does what it does where its code is passed once.
-use Rattle.std.proofs.Common.{Bool, List, None, Option, Some, [], ap, inl, inr, is_some, map, refl, subst, sym, true, ℕ}
-use Rattle.std.proofs.Common.{◌==◌, ◌∙◌, ◌≡◌}
+use Rattle.std.proofs.Common.{Bool, List, Option, ap, inl, inr, is_some, map, refl, sym, true, ℕ}
+use Rattle.std.proofs.Common.{◌∙◌, ◌≡◌}
 use Rattle.std.proofs.Common.{not}
 use Rattle.sc_base.proofs.Bools.{and_first, and_rest}
 use Rattle.sc_core.specs.Prelude.{Arith, Calls, Here, Left, Piece, Reached, State, Stopped, and_then, closed}

@@ -1,9 +1,9 @@
 -- A function keeps the rules of functions where its code is passed once.
-use Rattle.std.proofs.Common.{Bool, List, None, Option, Some, [], ap, arith, false, inl, inr, leb-true, ltb-false}
+use Rattle.std.proofs.Common.{Bool, List, Option, Some, arith, false, inl, inr, ltb-false}
 use Rattle.std.proofs.Common.{ltb-true}
-use Rattle.std.proofs.Common.{eqb-true, map, nat_lt, not, refl, subst, suc, sym, true, zero, ℕ, ◌&&◌, ◌*◌, ◌+◌, ◌<◌}
-use Rattle.std.proofs.Common.{◌==◌, ◌∙◌, ◌≡◌}
-use Rattle.std.proofs.Common.{◌≤◌, ◌⊎◌, length}
+use Rattle.std.proofs.Common.{eqb-true, nat_lt, refl, subst, suc, sym, true, zero, ℕ, ◌*◌, ◌+◌, ◌<◌}
+use Rattle.std.proofs.Common.{◌==◌, ◌≡◌}
+use Rattle.std.proofs.Common.{◌≤◌, length}
 use Rattle.std.proofs.lemmas.Bool.{and_from}
 use Rattle.sc_base.proofs.Bools.{and_first, and_rest}
 use Rattle.sc_tac.specs.Flow.{is_assigned_first}
@@ -16,7 +16,6 @@ use Rattle.sc_tac.specs.declared.stmt.TacStmt.{TacStmt, TacStmt-F}
 use Rattle.sc_opt.specs.Optimised.{changed_function}
 use Rattle.sc_opt.specs.Pass.{always_word, copy_source, is_read, known_constant, one_pass, table_of}
 use Rattle.sc_opt.specs.declared.facts.Assigned.{Assigned}
-use Rattle.sc_opt.specs.declared.facts.Assigned.TheVariants.{ByConstant}
 use Rattle.sc_opt.proofs.AssignedFirst.{stays_assigned}
 use Rattle.sc_opt.proofs.Bounds.{first_nowhere}
 use Rattle.sc_opt.proofs.Joined.{not_same}

@@ -1,6 +1,6 @@
 -- Rules of functions that the pass keeps.
 use Rattle.std.proofs.Common.{Bool, List, Option, [], ap, false, is_some, length, map, nat_le, nat_lt, refl}
-use Rattle.std.proofs.Common.{subst, sym, true, ℕ, ◌&&◌, ◌++◌, ◌==◌, ◌∙◌, ◌∷◌, ◌≡◌}
+use Rattle.std.proofs.Common.{subst, sym, true, ℕ, ◌++◌, ◌==◌, ◌∙◌, ◌∷◌, ◌≡◌}
 use Rattle.std.proofs.Common.{None, Some, eqb-true, not, slice_get, ◌||◌}
 use Rattle.std.proofs.lemmas.Bool.{and_from}
 use Rattle.sc_event.specs.Prelude.{export_at}

@@ -1,5 +1,5 @@
 -- What code does, what the pass gives of it does as well.
-use Rattle.std.proofs.Common.{Bool, Err, List, None, Ok, Option, Result, Some, [], ap, eq-eqb, eqb-true, false}
+use Rattle.std.proofs.Common.{Bool, List, None, Ok, Option, Result, Some, [], ap, eq-eqb, eqb-true, false}
 use Rattle.std.proofs.Common.{if◌then◌else◌, inl, inr, is_some, map, not, refl, subst, suc, sym, true, ℕ, ◌&&◌, ◌==◌}
 use Rattle.std.proofs.Common.{◌+◌, ◌||◌, ◌∙◌, ◌∷◌, ◌≡◌, ◌⊎◌}
 use Rattle.std.proofs.lemmas.Bool.{or_left, or_right}

@@ -1,6 +1,5 @@
 -- The constants of temporaries, in rising order.
 use Rattle.std.proofs.Common.{Bool, List, None, Option, [], ap, false, ltb-false, ltb-true, map, nat_lt, refl}
-use Rattle.std.proofs.Common.{slice_get}
 use Rattle.std.proofs.Common.{arith, sym, true, zero-add, ℕ, ◌++◌, ◌+◌, ◌∙◌, ◌∷◌, ◌≡◌}
 use Rattle.std.proofs.lemmas.List.FromFn.{map-range_with_len_more}
 use Rattle.std.specs.List.{range_with_len}

@@ -1,9 +1,9 @@
 -- Code that the pass leaves as it is, is lean.
-use Rattle.std.proofs.Common.{Bool, List, None, Option, Some, [], ap, arith, eq-eqb, eqb-true, false, if◌then◌else◌}
+use Rattle.std.proofs.Common.{Bool, List, Option, ap, arith, eq-eqb, false, if◌then◌else◌}
 use Rattle.std.proofs.Common.{inl}
-use Rattle.std.proofs.Common.{inr, ltb-false, ltb-true, map, nat_lt, not, refl, subst, suc, sym, true, zero, ℕ, ◌&&◌}
-use Rattle.std.proofs.Common.{◌+◌, ◌<◌, ◌==◌, ◌||◌, ◌∙◌}
-use Rattle.std.proofs.Common.{◌∷◌, ◌≡◌, ◌≤◌, ◌⊎◌}
+use Rattle.std.proofs.Common.{inr, ltb-false, ltb-true, nat_lt, not, refl, subst, suc, sym, true, zero, ℕ}
+use Rattle.std.proofs.Common.{◌+◌, ◌<◌, ◌==◌, ◌∙◌}
+use Rattle.std.proofs.Common.{◌≡◌, ◌≤◌, ◌⊎◌}
 use Rattle.sc_base.proofs.Bools.{and_first}
 use Rattle.sc_tac.specs.Prelude.{everywhere}
 use Rattle.sc_tac.specs.declared.stmt.Constant.{Constant}

@@ -1,5 +1,5 @@
 -- What the pass makes of statements, as the code builds it.
-use Rattle.std.proofs.Common.{Bool, List, None, Option, Some, [], ap, ap₂, false, if◌then◌else◌, map, not, refl, sym}
+use Rattle.std.proofs.Common.{Bool, List, None, Option, Some, [], ap, false, map, not, refl, sym}
 use Rattle.std.proofs.Common.{true}
 use Rattle.std.proofs.Common.{append_assoc, drop, get_or, length, ◌+◌, ◌<◌}
 use Rattle.std.proofs.Common.{ℕ, ◌&&◌, ◌++◌, ◌==◌, ◌||◌, ◌∙◌, ◌∷◌, ◌≡◌}

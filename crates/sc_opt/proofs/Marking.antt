@@ -1,5 +1,5 @@
 -- The marks of what is read, statement by statement.
-use Rattle.std.proofs.Common.{Bool, List, None, Option, Some, [], ap, ap₂, false, if◌then◌else◌, map, not, refl}
+use Rattle.std.proofs.Common.{Bool, List, None, Option, Some, [], ap, ap₂, false, not, refl}
 use Rattle.std.proofs.Common.{slice_get}
 use Rattle.std.proofs.Common.{drop, get_or, length, subst, ◌+◌, ◌<◌, ◌≤◌}
 use Rattle.std.proofs.Common.{sym, true, ℕ, ◌&&◌, ◌==◌, ◌||◌, ◌∙◌, ◌∷◌, ◌≡◌}

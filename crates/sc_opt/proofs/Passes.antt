@@ -1,7 +1,7 @@
 -- Passes in a row keep what one pass keeps, and leave code that is lean.
-use Rattle.std.proofs.Common.{Bool, List, None, Option, Some, [], ap, arith, eq-eqb, eqb-true, false, if◌then◌else◌}
-use Rattle.std.proofs.Common.{is_some, map}
-use Rattle.std.proofs.Common.{not, refl, subst, suc, sym, true, zero, ℕ, ◌+◌, ◌<◌, ◌==◌, ◌∙◌, ◌≡◌, ◌≤◌}
+use Rattle.std.proofs.Common.{Bool, List, Option, ap, arith, eq-eqb, eqb-true, false, if◌then◌else◌}
+use Rattle.std.proofs.Common.{is_some}
+use Rattle.std.proofs.Common.{refl, subst, suc, sym, true, zero, ℕ, ◌==◌, ◌∙◌, ◌≡◌, ◌≤◌}
 use Rattle.sc_core.specs.Prelude.{Arith, Calls, Here, Piece, Reached, State}
 use Rattle.sc_core.specs.declared.expr.CallTarget.{CallTarget}
 use Rattle.sc_core.specs.declared.value.Value.{Value}

@@ -1,7 +1,7 @@
 -- A program of three-address code runs as it does where each of its functions is optimised, whoever performs.
-use Rattle.std.proofs.Common.{Bool, List, None, Option, Some, [], ap, ap₂, cond, false, if◌then◌else◌, is_some, length}
+use Rattle.std.proofs.Common.{Bool, List, None, Option, Some, [], ap, ap₂, cond, false, if◌then◌else◌, length}
 use Rattle.std.proofs.Common.{arith as numbers, map, nat_lt, not, refl, slice_get, subst, suc, sym, true, zero, ℕ}
-use Rattle.std.proofs.Common.{◌&&◌, ◌+◌}
+use Rattle.std.proofs.Common.{◌+◌}
 use Rattle.std.proofs.Common.{◌==◌, ◌∙◌, ◌∷◌, ◌≡◌}
 use Rattle.std.proofs.lemmas.Bool.{and_from}
 use Rattle.std.proofs.lemmas.List.{length-map}

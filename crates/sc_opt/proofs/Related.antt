@@ -1,6 +1,6 @@
 -- What code comes to, what the pass gives of it comes to as well: the words of the meaning keep it.
-use Rattle.std.proofs.Common.{Bool, List, None, Option, Some, [], ap, false, if◌then◌else◌, inl, inr, refl, subst, suc}
-use Rattle.std.proofs.Common.{sym, true, zero, ℕ, ◌∙◌, ◌∷◌, ◌≡◌, ◌⊎◌}
+use Rattle.std.proofs.Common.{Bool, None, Option, ap, refl, subst, suc}
+use Rattle.std.proofs.Common.{sym, true, zero, ℕ, ◌≡◌, ◌⊎◌}
 use Rattle.sc_core.specs.Prelude.{Break, Continue, Exit, Left, Next, Piece, Reached, Return, State, Stopped, and_then}
 use Rattle.sc_core.specs.Prelude.{follow, in_loop, in_order, rounds, take, turn, turn_of}
 use Rattle.sc_core.specs.declared.run.RunEnd.{RunEnd}

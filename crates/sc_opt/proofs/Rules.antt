@@ -1,6 +1,6 @@
 -- The code that the pass gives keeps what each statement keeps by itself.
-use Rattle.std.proofs.Common.{Bool, List, None, Option, Some, [], ap, false, map, not, refl, subst, sym, true, ℕ, ◌&&◌}
-use Rattle.std.proofs.Common.{◌==◌, ◌||◌, ◌∙◌, ◌∷◌, ◌≡◌}
+use Rattle.std.proofs.Common.{Bool, List, None, Option, Some, [], ap, false, map, not, refl, sym, true, ℕ, ◌&&◌}
+use Rattle.std.proofs.Common.{◌==◌, ◌∙◌, ◌∷◌, ◌≡◌}
 use Rattle.std.proofs.lemmas.Bool.{and_from}
 use Rattle.std.specs.Option.{option_map}
 use Rattle.sc_base.proofs.Bools.{and_first, and_rest}

@@ -1,7 +1,7 @@
 -- The sources of temporaries, in rising order.
-use Rattle.std.proofs.Common.{Bool, List, None, Option, Some, [], ap, arith, false, if◌then◌else◌, ltb-true, map}
+use Rattle.std.proofs.Common.{Bool, List, [], ap, arith, false, if◌then◌else◌, ltb-true, map}
 use Rattle.std.proofs.Common.{nat_lt}
-use Rattle.std.proofs.Common.{refl, slice_get, subst, suc, sym, true, zero-add, zero, ℕ, ◌++◌, ◌+◌, ◌<◌, ◌∙◌, ◌∷◌, ◌≡◌}
+use Rattle.std.proofs.Common.{refl, sym, true, zero-add, ℕ, ◌++◌, ◌+◌, ◌<◌, ◌∙◌, ◌∷◌, ◌≡◌}
 use Rattle.std.proofs.lemmas.List.FromFn.{map-range_with_len_more}
 use Rattle.std.specs.List.{range_with_len}
 use Rattle.std.specs.Option.{unwrap_or}

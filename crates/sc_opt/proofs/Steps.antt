@@ -1,6 +1,6 @@
 -- Each kind of statement keeps what is known, in the code and in what the pass gives of it.
-use Rattle.std.proofs.Common.{Bool, Err, List, None, Ok, Option, Result, Some, [], ap, eq-eqb, eqb-true, false}
-use Rattle.std.proofs.Common.{if◌then◌else◌, inl, inr, is_some, map, not, refl, subst, sym, true, ℕ, ◌&&◌, ◌==◌, ◌||◌}
+use Rattle.std.proofs.Common.{Bool, Err, List, None, Ok, Option, Result, Some, [], ap, eq-eqb, false}
+use Rattle.std.proofs.Common.{inl, inr, map, refl, subst, sym, true, ℕ, ◌==◌}
 use Rattle.std.proofs.Common.{◌∙◌, ◌∷◌, ◌≡◌, ◌⊎◌}
 use Rattle.std.proofs.lemmas.Bool.{or_left, or_right}
 use Rattle.sc_base.proofs.Bools.{and_first, and_rest}

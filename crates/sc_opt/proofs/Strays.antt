@@ -1,6 +1,6 @@
 -- No `Break` or `Continue` of the code that the pass gives stands outside of loops, where none does in the code.
-use Rattle.std.proofs.Common.{Bool, List, None, Option, Some, [], ap, false, map, not, refl, subst, sym, true, ℕ, ◌&&◌}
-use Rattle.std.proofs.Common.{◌==◌, ◌||◌, ◌∙◌, ◌∷◌, ◌≡◌}
+use Rattle.std.proofs.Common.{Bool, List, None, Option, Some, [], ap, false, map, not, refl, sym, true, ℕ}
+use Rattle.std.proofs.Common.{◌||◌, ◌∙◌, ◌∷◌, ◌≡◌}
 use Rattle.std.specs.Option.{option_map}
 use Rattle.sc_core.proofs.Induction.{Each, everywhere as everywhere_in}
 use Rattle.sc_tac.proofs.Induction.{Inside, stmt_induction}

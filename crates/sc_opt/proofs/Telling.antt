@@ -1,5 +1,5 @@
 -- The pass that the tables of a function describe is the pass.
-use Rattle.std.proofs.Common.{Bool, List, None, Option, Some, [], ap, arith, eqb-true, false, if◌then◌else◌, ltb-false}
+use Rattle.std.proofs.Common.{Bool, List, None, Option, Some, [], ap, arith, false, ltb-false}
 use Rattle.std.proofs.Common.{ltb-true, map, nat_lt, not, refl, replicate, slice_get, subst, suc, sym, true, zero, ℕ}
 use Rattle.std.proofs.Common.{◌&&◌}
 use Rattle.std.proofs.Common.{◌++◌, ◌+◌, ◌<◌, ◌==◌, ◌||◌, ◌∙◌, ◌∷◌, ◌≡◌, ◌≤◌}

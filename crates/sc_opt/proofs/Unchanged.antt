@@ -1,7 +1,7 @@
 -- A pass that takes no weight away changes nothing.
-use Rattle.std.proofs.Common.{Bool, List, None, Option, Some, [], ap, ap₂, false, map, not, refl, subst, sym, true, ℕ}
+use Rattle.std.proofs.Common.{Bool, List, None, Option, Some, [], ap, ap₂, false, map, not, refl, sym, true, ℕ}
 use Rattle.std.proofs.Common.{◌&&◌}
-use Rattle.std.proofs.Common.{◌==◌, ◌||◌, ◌∙◌, ◌∷◌, ◌≡◌, ◌≤◌}
+use Rattle.std.proofs.Common.{◌==◌, ◌||◌, ◌∙◌, ◌∷◌, ◌≡◌}
 use Rattle.std.specs.Option.{option_map}
 use Rattle.sc_base.proofs.Bools.{and_first, and_rest}
 use Rattle.sc_core.proofs.Induction.{Each, everywhere as everywhere_in}

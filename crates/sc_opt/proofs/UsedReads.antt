@@ -1,5 +1,5 @@
 -- What the code that the pass gives reads is used.
-use Rattle.std.proofs.Common.{Bool, List, None, Option, Some, [], ap, eq-eqb, false, map, not, refl, sym, true, ℕ, ◌&&◌}
+use Rattle.std.proofs.Common.{Bool, List, None, Option, Some, [], eq-eqb, false, map, not, refl, true, ℕ, ◌&&◌}
 use Rattle.std.proofs.Common.{◌==◌, ◌||◌, ◌∙◌, ◌∷◌, ◌≡◌}
 use Rattle.std.proofs.lemmas.Bool.{and_from, or_left, or_right}
 use Rattle.std.specs.List.{list_all}

@@ -1,8 +1,8 @@
 -- What operators give: where they are folded, where they can't be blamed, and where they give words.
-use Rattle.std.proofs.Common.{Bool, Err, List, None, Ok, Option, Result, Some, [], ap, false, if◌then◌else◌, refl}
+use Rattle.std.proofs.Common.{Bool, Err, None, Ok, Option, Result, Some, [], ap, false, if◌then◌else◌, refl}
 use Rattle.std.proofs.Common.{subst}
-use Rattle.std.proofs.Common.{sym, true, ℕ, ◌&&◌, ◌∙◌, ◌≡◌}
-use Rattle.std.specs.Prelude.{slice_get, ℤ, ◌-◌, ◌^◌}
+use Rattle.std.proofs.Common.{true, ℕ, ◌&&◌, ◌≡◌}
+use Rattle.std.specs.Prelude.{slice_get, ◌-◌, ◌^◌}
 use Rattle.sc_base.proofs.Bools.{and_first, and_rest}
 use Rattle.sc_base.specs.declared.op.BinaryOp.{BinaryOp}
 use Rattle.sc_base.specs.declared.op.BinaryOp.TheVariants as op
@@ -23,7 +23,6 @@ use Rattle.sc_tac.specs.declared.stmt.TacOp.{TacOp}
 use Rattle.sc_tac.specs.declared.stmt.TacOp.TheVariants as tacop
 use Rattle.sc_opt.specs.Pass.{gives_word, is_total_signed, is_total_unsigned, is_total, on_constants}
 use Rattle.sc_opt.specs.Pass.{right_holds_word}
-use Rattle.sc_opt.specs.declared.facts.Assigned.{Assigned}
 
 -- what the pass needs of an arithmetic
 pub record Fits (arith : Arith) : Type 0 where

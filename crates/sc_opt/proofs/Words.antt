@@ -1,5 +1,5 @@
 -- A folded constant is a machine word, where the constants of the code are.
-use Rattle.std.proofs.Common.{Bool, Err, None, Ok, Option, Result, Some, [], ap, arith, bit_and, eq-eqb, false}
+use Rattle.std.proofs.Common.{Bool, Err, None, Ok, Option, Result, Some, [], ap, arith, eq-eqb, false}
 use Rattle.std.proofs.Common.{if◌then◌else◌, lt-ltb, ltb-true, nat_lt, refl, subst, suc, sym, true, zero, ℕ, ◌&&◌, ◌-◌}
 use Rattle.std.proofs.Common.{◌<◌, ◌^◌, ◌∙◌, ◌≡◌}
 use Rattle.sc_base.specs.declared.op.BinaryOp.{BinaryOp}

@@ -1,5 +1,5 @@
 use Rattle.std.proofs.Common.{rules}
-use Rattle.sc_object.proofs.Links.{can_be, differs, faultless, few_faces, is_missing, is_twice, joins, owns}
+use Rattle.sc_object.proofs.Links.{differs, few_faces, is_missing, is_twice}
 use Rattle.sc_object.proofs.Named.{names_face}
 use Rattle.sc_object.proofs.linking.link_objects.Goals as goal
 
