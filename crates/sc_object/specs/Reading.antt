@@ -1,7 +1,7 @@
 -- Reading an object from its bytes, field by field in their order, and why bytes are none.
 use Rattle.sc_base.specs.Prelude.{is_between, most_compartments, most_exports, most_params}
 use Rattle.sc_fields.specs.Prelude.{Read, code_at, comp_name_at, fields_at, globals_at, if_good, imports_at, mark_at}
-use Rattle.sc_fields.specs.Prelude.{number_that, read_name}
+use Rattle.sc_fields.specs.Prelude.{number_that, read_name, ◌>>=◌}
 use Rattle.sc_image.specs.Prelude.{most_globals, stretch}
 use Rattle.std.specs.Prelude.{ℕ, ◌/◌, ◌%◌, Bool, ◌==◌, nat_lt, nat_le, List, length, codes, Ok}
 use Rattle.sc_object.specs.declared.fault.BadObject.{BadObject}
