@@ -1,7 +1,7 @@
 -- What linking knows after each of its steps. The list is that of the objects, and the head its first.
 use Rattle.sc_object.proofs.Common.{All, AreObjects, CanBeJoined, HasOwn, ImageParts, IsJoined, IsJoinFault, IsObject}
 use Rattle.sc_object.proofs.Common.{List, None, ObjectParts, Some, [], ap, arith, differ_from, get_or, join_as}
-use Rattle.sc_object.proofs.Common.{join_fault, length, missing_from, slice_get, subst, sym, twice_from, ◌<◌, ◌∙◌, ◌∷◌}
+use Rattle.sc_object.proofs.Common.{join_fault, length, missing_from, slice_get, subst, sym, twice_from, ◌<◌, ◌∷◌}
 use Rattle.sc_object.proofs.Common.{◌≡◌, ◌≤◌}
 use Rattle.sc_object.proofs.Faults.{differs_first, has_none, missing_first, twice_first}
 use Rattle.sc_linker.proofs.Places.{all_here}

@@ -1,6 +1,6 @@
 -- A fault of linking names a compartment for which the first object has a face.
 use Rattle.sc_object.proofs.Common.{AreObjects, Bool, Differ, IsJoinFault, IsObject, List, Missing, None, ObjectParts}
-use Rattle.sc_object.proofs.Common.{Option, OutOfMemory, Some, Twice, [], ap, arith, differ_from, false, has_number}
+use Rattle.sc_object.proofs.Common.{Option, OutOfMemory, Some, Twice, [], arith, differ_from, false, has_number}
 use Rattle.sc_object.proofs.Common.{if◌then◌else◌, is_same_program, join_fault, length, missing_from, option_or}
 use Rattle.sc_object.proofs.Common.{refl, slice_get, subst, suc, sym, true, twice_from, zero, ℕ, ◌++◌, ◌+◌, ◌<◌}
 use Rattle.sc_object.proofs.Common.{◌∙◌, ◌∷◌, ◌≡◌, ◌≤◌}
