@@ -1,8 +1,8 @@
 -- Objects of sections, and the images that are linked: outputs and their causes.
 use Rattle.sc_top.proofs.Common.{Accepts, Failure, HasSection, IsCompiling, IsJoining, IsLinked, IsObjectOutput}
 use Rattle.sc_top.proofs.Common.{IsOutputCause, IsSome, IsWellTyped, List, None, Object, ProgramTree, Some, ap}
-use Rattle.sc_top.proofs.Common.{arith, bad_join_in, comp_named, join_by_name, leb-true, length, of_join}
-use Rattle.sc_top.proofs.Common.{of_join_fault, option_and_then, refl, subst, sym, ℕ, ◌<◌, ◌∙◌, ◌≡◌}
+use Rattle.sc_top.proofs.Common.{arith, comp_named, join_by_name, leb-true, length}
+use Rattle.sc_top.proofs.Common.{of_join_fault, option_and_then, refl, subst, sym, ℕ, ◌<◌, ◌≡◌}
 use Rattle.sc_core.specs.Prelude.{has_few_compartments}
 use Rattle.sc_event.specs.declared.interface.Interface.{Interface}
 use Rattle.sc_image.specs.Prelude.{IsWellFormed, image_bytes}
