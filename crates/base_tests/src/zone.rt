@@ -27,3 +27,19 @@ fn the_first_place_that_fits_is_taken(rt: HostRuntime) -> Result<(), Fail> {
     assert!(rt; zone.alloc(1) == Some(13));
     Ok(())
 }
+
+#[test]
+fn a_hole_among_many_blocks_is_found(rt: HostRuntime) -> Result<(), Fail> {
+    let mut zone = Zone::new(rt.alloc())?;
+    for place in 0..600 {
+        assert!(rt; zone.alloc(1) == Some(place));
+    }
+    assert!(rt; zone.free(300) && zone.free(599) && zone.free(511) && zone.free(512));
+    assert!(rt; zone.words_at(300).is_none());
+    assert!(rt; zone.alloc(3) == Some(599));
+    assert!(rt; zone.alloc(2) == Some(511));
+    assert!(rt; zone.alloc(1) == Some(300));
+    assert!(rt; zone.words_at(511) == Some(2));
+    assert!(rt; zone.alloc(1) == Some(602));
+    Ok(())
+}

@@ -7,4 +7,4 @@ mod programs;
 
 pub use code::lowered;
 pub use long::{append, repeated};
-pub use programs::{BLOCKS, MEMBERS, PROGRAMS};
+pub use programs::{BLOCKS, CONSTANTS, DIVISION_BY_ZERO, MEMBERS, PROGRAMS};

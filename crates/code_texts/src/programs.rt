@@ -140,7 +140,8 @@ void hold(void) {
 }
 ";
 
-const DIVISION_BY_ZERO: &[u8] = b"#pragma compartment Main
+/// A division by zero, which is left to the machine.
+pub const DIVISION_BY_ZERO: &[u8] = b"#pragma compartment Main
 #pragma import Env output
 void output(int v);
 int main(void) {
@@ -149,7 +150,8 @@ int main(void) {
 }
 ";
 
-const CONSTANTS: &[u8] = b"#pragma compartment Main
+/// A sum of constants.
+pub const CONSTANTS: &[u8] = b"#pragma compartment Main
 #pragma import Env output
 void output(int v);
 int main(void) {

@@ -46,6 +46,11 @@ const NO_PROGRAMS: &str = "\
     make --size 1 --seed 1 --summary true|make --size --summary 1 --seed 1|make --size 1 --seed 1 --sum|\
     make --size 1 --size 1 --seed 1";
 
+const NO_SECTIONS: &str = "\
+    object|object --section|object --section=|object --section |object --section Env|object --section 1a|\
+    object --section a-b|object --section A --section B|object --section A B|object A|link --section A|link x|\
+    compile --section A";
+
 // A command, and what it is read as.
 const COMMANDS: &str = "\
 check -> Ok(Check)
@@ -75,11 +80,21 @@ explain --show 32 -> Ok(Explain(RunOptions { steps: 1000000, events: 1024, input
 explain --show=0 --steps 2 -> Ok(Explain(RunOptions { steps: 2, events: 1024, inputs: Items { items: [] } }, Some(0)))
 make --size 1000 --seed 4294967295 -> Ok(Make(MakeOptions { size: 1000, seed: 4294967295, summary: false }))
 make --summary --seed=0 --size=1 -> Ok(Make(MakeOptions { size: 1, seed: 0, summary: true }))
-make --size 1 --summary --seed 0 -> Ok(Make(MakeOptions { size: 1, seed: 0, summary: true }))";
+make --size 1 --summary --seed 0 -> Ok(Make(MakeOptions { size: 1, seed: 0, summary: true }))
+object --section Net -> Ok(Object(ObjectOptions { section: [78, 101, 116] }))
+object --section=int -> Ok(Object(ObjectOptions { section: [105, 110, 116] }))
+link -> Ok(Link)";
 
 #[test]
 fn refusals(rt: HostRuntime) -> Result<(), Fail> {
-    for lines in [NO_COMMANDS, NO_LIMITS, NO_OPTIONS, NO_LISTS, NO_PROGRAMS] {
+    for lines in [
+        NO_COMMANDS,
+        NO_LIMITS,
+        NO_OPTIONS,
+        NO_LISTS,
+        NO_PROGRAMS,
+        NO_SECTIONS,
+    ] {
         for line in lines.split('|') {
             assert!(rt; read(rt.alloc(), line)?.as_str() == "Err(Usage)", "{line}");
         }

@@ -7,6 +7,7 @@ mod exec;
 mod judge;
 mod machine;
 mod meaning;
+mod objects;
 mod refusal;
 mod runs;
 mod words;

@@ -1,5 +1,6 @@
 //! The machine code of three-address code, run by the machine over places that the tests choose. Its events are
-//! written by hand, and for operators computed. This crate has only tests.
+//! written by hand, and for operators computed. And objects of sections, their bytes, and images linked from them. This
+//! crate has only tests.
 #![tactic(auto)]
 
 #[cfg(test)]
@@ -8,6 +9,12 @@ mod arithmetic;
 mod images;
 #[cfg(test)]
 mod linking;
+#[cfg(test)]
+mod object_causes;
+#[cfg(test)]
+mod object_links;
+#[cfg(test)]
+mod object_sections;
 #[cfg(test)]
 mod operators;
 #[cfg(test)]

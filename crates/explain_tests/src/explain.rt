@@ -1,5 +1,6 @@
 // The command `explain` on programs with faults.
 use chain_texts::programs::{ACCOUNTS, EXTREME_ARGUMENTS, REENTRY_BLAMED, STORE};
+use code_texts::DIVISION_BY_ZERO;
 use memory_runs::Run;
 use std::alloc::Global;
 use std::test::Fail;
@@ -19,7 +20,17 @@ fn reported(alloc: Global, case: Case) -> Result<bool, Fail> {
 
 #[test]
 fn a_blamed_compartment_is_replaced(rt: HostRuntime) -> Result<(), Fail> {
-    let cases: [Case; 4] = [
+    let cases: [Case; 5] = [
+        Case {
+            words: "explain",
+            program: DIVISION_BY_ZERO,
+            want: b"out Main -1
+end Main 0
+stop ended
+chain 1
+replace Main after 0 ZeroDivisor line 5
+",
+        },
         Case {
             words: "explain",
             program: STORE,

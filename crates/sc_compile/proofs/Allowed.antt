@@ -16,7 +16,7 @@ use Rattle.sc_event.specs.declared.interface.Import.{Import}
 use Rattle.sc_event.specs.declared.interface.Import.TheVariants.{Input, Output, Function}
 use Rattle.sc_event.specs.declared.interface.Scalar.{Scalar}
 use Rattle.sc_event.specs.declared.interface.Scalar.TheVariants.{Int}
-use Rattle.sc_image.specs.declared.parts.ImportPart.{ImportPart}
+use Rattle.sc_image.specs.Prelude.{ImportPart}
 use Rattle.sc_image.proofs.Traces.{all_traces_legal}
 
 -- IMPORTS

@@ -1,19 +1,19 @@
 -- What the passes give together.
 use Rattle.sc_compile.proofs.Common.{All, AreNamed, CodeTree, EmitsAll, GlobalsAreWords, ImageParts, IsCompiled}
 use Rattle.sc_compile.proofs.Common.{IsLinkable, IsWellTyped, IsWhole, List, None, ProgramTree, TacSection, all_codes}
-use Rattle.sc_compile.proofs.Common.{ap, built_image, flat_map, linked_image, lowered_program, section_codes, subst}
-use Rattle.sc_compile.proofs.Common.{sym, too_large, ◌∙◌, ◌≡◌}
+use Rattle.sc_compile.proofs.Common.{ap, built_image, flat_map, linked_image, program_tac, section_codes}
+use Rattle.sc_compile.proofs.Common.{subst, sym, too_large, ◌∙◌, ◌≡◌}
 use Rattle.sc_compile.proofs.Counted.{each_emits}
 use Rattle.sc_compile.proofs.Linkable.{is_linkable}
 use Rattle.sc_compile.proofs.Emitted.{compiled}
 
 module _ (program : ProgramTree) (typed : IsWellTyped program) (fits : too_large program ≡ None)
-    (sections : List TacSection) (are : sections ≡ (lowered_program program).sections)
+    (sections : List TacSection) (are : sections ≡ (program_tac program).sections)
     (emitted : All EmitsAll sections) (codes : List CodeTree) (made : codes ≡ flat_map section_codes sections) where
-  pub codes_are_all : codes ≡ all_codes (lowered_program program)
+  pub codes_are_all : codes ≡ all_codes (program_tac program)
   codes_are_all = made ∙ ap (flat_map section_codes) are
 
-  emits : All EmitsAll (lowered_program program).sections
+  emits : All EmitsAll (program_tac program).sections
   emits = subst (All EmitsAll) are emitted
 
   -- the codes can be linked

@@ -74,6 +74,7 @@ pub use Rattle.sc_compile.specs.Prelude.{EmitsSo, FitAll, ForwardSimulation, Has
 pub use Rattle.sc_compile.specs.Prelude.{IsCounted, above}
 pub use Rattle.sc_compile.specs.Prelude.{all_codes, built_image, cells_in, code_size, counted_all, counted_code}
 pub use Rattle.sc_compile.specs.Prelude.{counted_data, counted_frame, counted_frames, data_size, first, faults_from}
+pub use Rattle.sc_compile.specs.Prelude.{function_tac, program_tac, section_tac}
 pub use Rattle.sc_compile.specs.Prelude.{function_code, large_code, large_data, large_frame, large_frames}
 pub use Rattle.sc_core.specs.Prelude.{most_code, most_frame}
 pub use Rattle.sc_compile.specs.Prelude.{program_nodes, section_codes, test_word, too_large}

@@ -4,22 +4,24 @@ use Rattle.sc_compile.proofs.Common.{All, Bool, CodeTooLarge, CompileFault, Each
 use Rattle.sc_compile.proofs.Common.{Fits as FitsIn, Interfaces, IsCounted, IsWellTyped, List, None, Option}
 use Rattle.sc_compile.proofs.Common.{ProgramTree, Some, TacFnTree, TacSection, TacTree, TypedFunction, TypedGlobal}
 use Rattle.sc_compile.proofs.Common.{TypedSection, TypedStruct, [], above, all_at as of_all, all_by, and_first}
-use Rattle.sc_compile.proofs.Common.{and_rest, ap, arith, callable_in, cells_in, cells_of, counted_all, counted_code}
-use Rattle.sc_compile.proofs.Common.{counted_data, counted_frame, counted_frames, decl_count, few_so, first, first_at}
-use Rattle.sc_compile.proofs.Common.{flat_map, faults_from, frame_bound, function_fits, functions_or_none, global_fits}
-use Rattle.sc_compile.proofs.Common.{large_code, large_data, large_frame, large_frames, leb-true, length, length-map}
-use Rattle.sc_compile.proofs.Common.{list_all, local_fits, local_nodes, lowered_function, lowered_program}
-use Rattle.sc_compile.proofs.Common.{lowered_section, lowered_sections, map, most_cells, most_frame, most_nodes}
-use Rattle.sc_compile.proofs.Common.{most_params, nat_le, nodes, of_section, option_map, params_fit, passed_fits, refl}
-use Rattle.sc_compile.proofs.Common.{result_fits, scope_of, section_fits, slice_get, stretch, structs_fit, subst, suc}
-use Rattle.sc_compile.proofs.Common.{sym, too_large, total, true, variable_fits, variables, zero, ℕ, ◌&&◌, ◌*◌, ◌++◌}
-use Rattle.sc_compile.proofs.Common.{◌+◌, ◌<◌, ◌^◌, ◌∙◌, ◌∷◌, ◌≡◌, ◌≤◌}
+use Rattle.sc_compile.proofs.Common.{and_rest, ap, arith, callable_in, cells_in, cells_of, counted_all}
+use Rattle.sc_compile.proofs.Common.{counted_code, counted_data, counted_frame, counted_frames, decl_count}
+use Rattle.sc_compile.proofs.Common.{faults_from, few_so, first, first_at, flat_map, frame_bound, function_fits}
+use Rattle.sc_compile.proofs.Common.{functions_or_none, global_fits, large_code, large_data, large_frame}
+use Rattle.sc_compile.proofs.Common.{large_frames, leb-true, length, length-map, list_all, local_fits, local_nodes}
+use Rattle.sc_compile.proofs.Common.{lowered_function, lowered_program, lowered_section, lowered_sections, map}
+use Rattle.sc_compile.proofs.Common.{most_cells, most_frame, most_nodes, most_params, nat_le, nodes, of_section}
+use Rattle.sc_compile.proofs.Common.{option_map, params_fit, passed_fits, program_tac, refl, result_fits, scope_of}
+use Rattle.sc_compile.proofs.Common.{section_fits, slice_get, stretch, structs_fit, subst, suc, sym, too_large, total}
+use Rattle.sc_compile.proofs.Common.{true, variable_fits, variables, zero, ℕ, ◌&&◌, ◌*◌, ◌++◌, ◌+◌, ◌<◌, ◌^◌, ◌∙◌}
+use Rattle.sc_compile.proofs.Common.{◌∷◌, ◌≡◌, ◌≤◌}
 use Rattle.sc_compile.specs.Prelude.{Fits}
 use Rattle.sc_core_kind_laws.proofs.Sections.{all_at}
 use Rattle.sc_core.specs.declared.section.TypedLocal.{TypedLocal}
 use Rattle.sc_core.specs.declared.section.TypedParam.{TypedParam}
+use Rattle.sc_opt.specs.Prelude.{optimised_function, optimised_section}
 use Rattle.sc_compile.proofs.Fitting.{code_fits, frames_fit, prefix_none, rest_none, within}
-use Rattle.sc_compile.proofs.Results.{mapped}
+use Rattle.sc_compile.proofs.Lists.{mapped}
 use Rattle.sc_lower.proofs.Beyond.{locals_few}
 
 -- LISTS
@@ -265,6 +267,18 @@ module _ (program : ProgramTree) (typed : IsWellTyped program) where
       let from = lowered_of program comp section at in
       subst FitAll from.same (fit_all program typed comp from.source from.is small))
 
+  pub all_fit_optimised : too_large program ≡ None → All FitAll (program_tac program).sections
+  all_fit_optimised small = all_by FitAll (program_tac program).sections (λ comp section at.
+      let found = mapped optimised_section (lowered_program program).sections comp section at in
+      subst FitAll found.1.1
+      (section_fits_so found.0 (of_all FitAll (lowered_program program).sections comp found.0 (all_fit small)
+      found.1.0))) where
+        section_fits_so : (section : TacSection) → FitAll section → FitAll (optimised_section section)
+        section_fits_so section fits = all_by Fits (optimised_section section).functions (λ number f at.
+            let found = mapped optimised_function section.functions number f at in
+            let its = of_all Fits section.functions number found.0 fits found.1.0 in
+            subst Fits found.1.1 (record { code = its.code; frame = its.frame }))
+
   pub few_sections : length (lowered_program program).sections ≤ 32
   few_sections =
       let few : length program.sections ≤ 32 = leb-true (length program.sections) 32 (few_so program typed) in
@@ -275,18 +289,17 @@ module _ (program : ProgramTree) (typed : IsWellTyped program) where
         lengths k [] = refl
         lengths k (section ∷ sections) = ap suc (lengths (suc k) sections)
 
-  pub each_emits : All EmitsAll (lowered_program program).sections → EachEmits program
-  each_emits all comp number f at = by (slice_get (lowered_program program).sections comp) refl at where
-    by : (o : Option TacSection) → slice_get (lowered_program program).sections comp ≡ o →
+  pub each_emits : All EmitsAll (program_tac program).sections → EachEmits program
+  each_emits all comp number f at = by (slice_get (program_tac program).sections comp) refl at where
+    by : (o : Option TacSection) → slice_get (program_tac program).sections comp ≡ o →
         slice_get (functions_or_none o) number ≡ Some f → EmitsSo f
     by None is at = absurd (cc)
     by (Some section) is at =
         of_all EmitsSo section.functions number f
-        (of_all EmitsAll (lowered_program program).sections comp section all is) at
+        (of_all EmitsAll (program_tac program).sections comp section all is) at
 
 -- the sections of the code, by way of what it is read from
-pub sections_are : (program : ProgramTree) (tree tac : TacTree) (sections : List TacSection) →
-    sections ≡ tree.sections → tree ≡ tac → tac ≡ lowered_program program →
-    sections ≡ (lowered_program program).sections
-sections_are program tree tac sections is read lowered =
-    is ∙ ap (λ (t : TacTree). t.sections) read ∙ ap (λ (t : TacTree). t.sections) lowered
+pub sections_are : (code tree tac : TacTree) (sections : List TacSection) → sections ≡ tree.sections → tree ≡ tac →
+    tac ≡ code → sections ≡ code.sections
+sections_are code tree tac sections is read same =
+    is ∙ ap (λ (t : TacTree). t.sections) read ∙ ap (λ (t : TacTree). t.sections) same

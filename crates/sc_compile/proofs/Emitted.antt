@@ -3,9 +3,8 @@ use Rattle.sc_compile.proofs.Common.{AgreesInDepth, All, AreEmitted, AreNamed, A
 use Rattle.sc_compile.proofs.Common.{ForwardSimulation, GlobalsAreWords, ImageParts, IsBuilt, IsCompiled, IsFunction}
 use Rattle.sc_compile.proofs.Common.{IsLinkable, IsLinked, IsWellTyped, IsWhole, IsWord, List, None, ProgramTree, Run}
 use Rattle.sc_compile.proofs.Common.{SimulatesRun, addresses_at, all_codes, arith, built_image, c_arith, code_run}
-use Rattle.sc_compile.proofs.Common.{keeps_meaning, keeps_rules, lowered_program, machine, outcomes_simulate}
-use Rattle.sc_compile.proofs.Common.{program_nodes, refl, run_of, same, same_run, subst, suc, too_large}
-use Rattle.sc_compile.proofs.Common.{wrapped_code_agrees, wrapping, ℕ, ⊎_elim, ◌*◌, ◌≡◌}
+use Rattle.sc_compile.proofs.Common.{machine, outcomes_simulate, program_nodes, program_tac, refl, run_of, same}
+use Rattle.sc_compile.proofs.Common.{same_run, subst, suc, too_large, wrapped_code_agrees, wrapping, ℕ, ◌*◌, ◌≡◌}
 use Rattle.sc_linker.proofs.Whole.{linked_images_hold}
 use Rattle.sc_emit_run_laws.proofs.Whole.{scripts_simulate, simulates}
 use Rattle.sc_compile.proofs.Allowed.{allowed}
@@ -14,6 +13,7 @@ use Rattle.sc_compile.proofs.Linked.{is_linked}
 use Rattle.sc_compile.proofs.NoTests.{no_tests}
 use Rattle.sc_compile.proofs.Results.{gives_results, source_of}
 use Rattle.sc_compile.proofs.Scripted.{scripted_emits}
+use Rattle.sc_compile.proofs.Tac.{MeansIn, function_rules, means_in_c, means_wrapped, tac_rules}
 
 -- a run agrees with itself
 itself : (run : Run) → AgreesInDepth run run
@@ -25,7 +25,7 @@ itself run = record {
 
 module _ (program : ProgramTree) (typed : IsWellTyped program) (named : AreNamed program.interfaces)
     (words : GlobalsAreWords program.sections) (fits : too_large program ≡ None) (each : EachEmits program)
-    (whole : All IsWhole (all_codes (lowered_program program))) where
+    (whole : All IsWhole (all_codes (program_tac program))) where
   abbrev image : ImageParts
   image = built_image program
 
@@ -35,38 +35,39 @@ module _ (program : ProgramTree) (typed : IsWellTyped program) (named : AreNamed
   emitted : AreEmitted program
   emitted = record { functions = each; whole = whole }
 
-  linkable : IsLinkable program (all_codes (lowered_program program))
+  linkable : IsLinkable program (all_codes (program_tac program))
   linkable = is_linkable program typed fits each
 
-  linked : IsLinked (lowered_program program) image turn_pays
-      (addresses_at program (all_codes (lowered_program program)))
+  linked : IsLinked (program_tac program) image turn_pays
+      (addresses_at program (all_codes (program_tac program)))
   linked = is_linked program typed named words fits emitted
 
-  built : IsBuilt (lowered_program program) image turn_pays
+  built : IsBuilt (program_tac program) image turn_pays
   built = record {
-    rules = (keeps_rules program typed).programs;
+    rules = (tac_rules program typed).rules;
     functions = λ comp number f is.
         let from = source_of program typed comp number f is in
         subst IsFunction from.same
-        ((keeps_rules program typed).functions comp from.section from.is number from.source from.its);
+        (function_rules program typed comp from.section from.is number from.source from.its);
     results = gives_results program typed;
-    addresses = addresses_at program (all_codes (lowered_program program));
+    addresses = addresses_at program (all_codes (program_tac program));
     linked = linked;
   }
 
   -- beside a run of the code that agrees with the one in which every operation gives a word
-  emits_by : (arith' : Arith) (inputs : List ℕ) (turns : ℕ) → All IsWord inputs →
-      AgreesInDepth (code_run arith' (lowered_program program) inputs turns)
-      (code_run wrapping (lowered_program program) inputs turns) →
+  emits_by : (arith' : Arith) → MeansIn arith' program (program_tac program) → (inputs : List ℕ) (turns : ℕ) →
+      All IsWord inputs →
+      AgreesInDepth (code_run arith' (program_tac program) inputs turns)
+      (code_run wrapping (program_tac program) inputs turns) →
       SimulatesRun image inputs (turn_pays * suc turns) turns (run_of arith' program inputs turns)
-  emits_by arith' inputs turns are agrees =
+  emits_by arith' means inputs turns are agrees =
       outcomes_simulate.along image inputs (turn_pays * suc turns) turns (run_of arith' program inputs turns)
-      (code_run arith' (lowered_program program) inputs turns)
-      ((keeps_meaning program typed).meaning arith' inputs turns)
+      (code_run arith' (program_tac program) inputs turns)
+      (means.meaning inputs turns)
       (outcomes_simulate.emits image inputs (turn_pays * suc turns) turns
-      (code_run arith' (lowered_program program) inputs turns)
-      (code_run wrapping (lowered_program program) inputs turns) linked.formed are agrees
-      (simulates (lowered_program program) image turn_pays built inputs turns are))
+      (code_run arith' (program_tac program) inputs turns)
+      (code_run wrapping (program_tac program) inputs turns) linked.formed are agrees
+      (simulates (program_tac program) image turn_pays built inputs turns are))
 
   all_by : (arith' : Arith) → ((inputs : List ℕ) (turns : ℕ) → All IsWord inputs →
       SimulatesRun image inputs (turn_pays * suc turns) turns (run_of arith' program inputs turns)) →
@@ -76,7 +77,8 @@ module _ (program : ProgramTree) (typed : IsWellTyped program) (named : AreNamed
   emits_c : (inputs : List ℕ) (turns : ℕ) → All IsWord inputs →
       SimulatesRun image inputs (turn_pays * suc turns) turns (run_of c_arith program inputs turns)
   emits_c inputs turns are =
-      emits_by c_arith inputs turns are (wrapped_code_agrees.meaning (lowered_program program) inputs turns)
+      emits_by c_arith (means_in_c program typed) inputs turns are
+      (wrapped_code_agrees.meaning (program_tac program) inputs turns)
 
   -- the machine's trace
   abbrev observed : (inputs : List ℕ) (steps events : ℕ) → List Event
@@ -85,16 +87,16 @@ module _ (program : ProgramTree) (typed : IsWellTyped program) (named : AreNamed
   pub compiled : IsCompiled program image
   compiled = record {
     well_formed = linked.formed;
-    interfaces = linked_images_hold.interfaces program (all_codes (lowered_program program));
+    interfaces = linked_images_hold.interfaces program (all_codes (program_tac program));
     forward = all_by c_arith emits_c;
-    wrapped = all_by wrapping (λ inputs turns are. emits_by wrapping inputs turns are
-        (itself (code_run wrapping (lowered_program program) inputs turns)));
+    wrapped = all_by wrapping (λ inputs turns are. emits_by wrapping (means_wrapped program typed) inputs turns are
+        (itself (code_run wrapping (program_tac program) inputs turns)));
     backward = λ inputs steps events are. (emits_c inputs steps are).backward steps events (omega arith);
     no_tests = no_tests program typed linkable emitted;
     scripted = λ inputs steps events set are.
         scripted_emits program typed set inputs steps (observed inputs steps events)
-        (scripts_simulate (lowered_program program) image turn_pays built inputs steps events set are
-        (allowed program (all_codes (lowered_program program)) linked.formed inputs steps events are));
+        (scripts_simulate (program_tac program) image turn_pays built inputs steps events set are
+        (allowed program (all_codes (program_tac program)) linked.formed inputs steps events are));
     allowed = λ inputs steps events are.
-        allowed program (all_codes (lowered_program program)) linked.formed inputs steps events are;
+        allowed program (all_codes (program_tac program)) linked.formed inputs steps events are;
   }

@@ -15,4 +15,5 @@ pub mod Refused
 pub mod Reported
 pub mod Results
 pub mod Scripted
+pub mod Tac
 pub mod Emitted

@@ -1,16 +1,16 @@
 -- The codes of a program that isn't too large can be linked.
-use Rattle.sc_compile.proofs.Common.{Bool, CodeTree, EachEmits, Fits, IsLinkable, IsProgram, IsTrue, IsWellTyped, List}
-use Rattle.sc_compile.proofs.Common.{None, Option, ProgramTree, Proto, RefersInside, Some, TacFnTree, TacSection}
-use Rattle.sc_compile.proofs.Common.{TacStmt, TacStmt-F, TacTree, TypedFunction, TypedSection, [], all_codes, all_from}
-use Rattle.sc_compile.proofs.Common.{ap, arith, calls_exports, calls_own, cells, codes_at, comp_at, cross_call_fits}
-use Rattle.sc_compile.proofs.Common.{everywhere, export_at, exports_are, exports_at, exports_in, first_at, fits_or_none}
-use Rattle.sc_compile.proofs.Common.{function_code, functions_in, functions_or_none, inl, inr, instructions, is_some}
-use Rattle.sc_compile.proofs.Common.{keeps_rules, length, length-map, lowered_function, lowered_program}
-use Rattle.sc_compile.proofs.Common.{lowered_section, lt-ltb, map, map-TacStmt, most_globals, names_only}
-use Rattle.sc_compile.proofs.Common.{names_own_global, nat_lt, nodes, option_map, own_call_fits, refers_only, refl}
-use Rattle.sc_compile.proofs.Common.{same_Some, section_at, section_or_none, slice_get, slice_get-map, slice_get_within}
-use Rattle.sc_compile.proofs.Common.{stretch, subst, suc, sym, too_large, total, true, ℕ, ◌*◌, ◌+◌, ◌<◌, ◌∙◌, ◌∷◌, ◌≡◌}
-use Rattle.sc_compile.proofs.Common.{◌≤◌, ◌⊎◌}
+use Rattle.sc_compile.proofs.Common.{Bool, CodeTree, EachEmits, Fits, IsLinkable, IsProgram, IsTrue, IsWellTyped}
+use Rattle.sc_compile.proofs.Common.{List, None, Option, ProgramTree, Proto, RefersInside, Some, TacFnTree}
+use Rattle.sc_compile.proofs.Common.{TacSection, TacStmt, TacStmt-F, TacTree, TypedFunction, TypedSection, []}
+use Rattle.sc_compile.proofs.Common.{all_codes, all_from, ap, arith, calls_exports, calls_own, cells, codes_at}
+use Rattle.sc_compile.proofs.Common.{comp_at, cross_call_fits, everywhere, export_at, exports_are, exports_at}
+use Rattle.sc_compile.proofs.Common.{exports_in, fits_or_none, function_code, function_tac, functions_in}
+use Rattle.sc_compile.proofs.Common.{functions_or_none, inl, inr, instructions, is_some, length, length-map, lt-ltb}
+use Rattle.sc_compile.proofs.Common.{map, map-TacStmt, most_globals, names_only, names_own_global, nat_lt, nodes}
+use Rattle.sc_compile.proofs.Common.{option_map, own_call_fits, program_tac, refers_only, refl, same_Some}
+use Rattle.sc_compile.proofs.Common.{section_at, section_or_none, section_tac, slice_get, slice_get-map}
+use Rattle.sc_compile.proofs.Common.{slice_get_within, stretch, subst, suc, sym, too_large, total, true, ℕ, ◌*◌, ◌+◌}
+use Rattle.sc_compile.proofs.Common.{◌<◌, ◌∙◌, ◌∷◌, ◌≡◌, ◌≤◌, ◌⊎◌}
 use Rattle.sc_tac.specs.declared.stmt.TacStmt.TheOpen as tac
 use Rattle.sc_emit.proofs.Passing.{AllPass, PassesHere, Test, implied_everywhere, passes}
 use Rattle.sc_linker.proofs.Codes.{codes_none}
@@ -18,7 +18,8 @@ use Rattle.sc_emit_run_laws.proofs.Sections.{InSection, in_functions, its_sectio
 use Rattle.sc_compile.proofs.Codes.{codes_are, one_for_each}
 use Rattle.sc_compile.proofs.Fitting.{code_fits, data_fits}
 use Rattle.sc_compile.proofs.Names.{exports_few}
-use Rattle.sc_compile.proofs.Results.{mapped}
+use Rattle.sc_compile.proofs.Tac.{functions_are, tac_at, tac_rules}
+use Rattle.sc_compile.proofs.Lists.{mapped}
 
 -- codes of fewer than 24 instructions a node leave room for a word more each
 all_short : {A B : Type 0} (coded : B → CodeTree) (made : A → B) (size : A → ℕ) (xs : List A) →
@@ -86,38 +87,38 @@ module _ (program : ProgramTree) (typed : IsWellTyped program) (fits : too_large
     (emitted : EachEmits program)
   where
     abbrev code : TacTree
-    code = lowered_program program
+    code = program_tac program
 
     abbrev codes : List CodeTree
     codes = all_codes code
 
-    lowered_at : (comp : ℕ) (o : Option TypedSection) → slice_get program.sections comp ≡ o →
-        slice_get code.sections comp ≡ option_map (lowered_section program.interfaces comp) o
-    lowered_at comp o is =
-        first_at program.interfaces program.sections comp
-        ∙ ap (option_map (lowered_section program.interfaces comp)) is
+    tac_by : (comp : ℕ) (o : Option TypedSection) → slice_get program.sections comp ≡ o →
+        slice_get code.sections comp ≡ option_map (section_tac program.interfaces comp) o
+    tac_by comp o is =
+        tac_at program comp ∙ ap (option_map (section_tac program.interfaces comp)) is
 
-    functions_are : (comp : ℕ) (section : TypedSection) → slice_get program.sections comp ≡ Some section →
-        functions_in code comp ≡ map (lowered_function program.interfaces comp section.structs) section.functions
-    functions_are comp section is = ap functions_or_none (lowered_at comp (Some section) is)
+    functions_so : (comp : ℕ) (section : TypedSection) → slice_get program.sections comp ≡ Some section →
+        functions_in code comp ≡ map (function_tac program.interfaces comp section.structs) section.functions
+    functions_so comp section is =
+        ap functions_or_none (tac_by comp (Some section) is) ∙ functions_are program comp section
 
     its_code_is_short : (comp : ℕ) (section : TypedSection) → slice_get program.sections comp ≡ Some section →
         (n : ℕ) (f : TypedFunction) → slice_get section.functions n ≡ Some f →
-        length (function_code (lowered_function program.interfaces comp section.structs f)).instrs < 24 * nodes f
+        length (function_code (function_tac program.interfaces comp section.structs f)).instrs < 24 * nodes f
     its_code_is_short comp section is n f its =
-        let lower : TypedFunction → TacFnTree = lowered_function program.interfaces comp section.structs in
+        let lower : TypedFunction → TacFnTree = function_tac program.interfaces comp section.structs in
         (emitted comp n (lower f)
-        (ap (λ fs. slice_get fs n) (functions_are comp section is) ∙ slice_get-map lower section.functions n
+        (ap (λ fs. slice_get fs n) (functions_so comp section is) ∙ slice_get-map lower section.functions n
         ∙ ap (option_map lower) its)).short
 
     code_of_section : (comp : ℕ) (there : Fits program comp) →
         4 * (length (exports_at program comp) + instructions (codes_at program codes comp)) ≤ stretch
     code_of_section comp there =
         let lower : TypedFunction → TacFnTree =
-        lowered_function program.interfaces comp there.section.structs in
+        function_tac program.interfaces comp there.section.structs in
         let its : List CodeTree = map function_code (map lower there.section.functions) in
         let made : codes_at program codes comp ≡ its =
-        codes_are program comp ∙ ap (map function_code) (functions_are comp there.section there.is) in
+        codes_are program comp ∙ ap (map function_code) (functions_so comp there.section there.is) in
         let short : length there.section.functions + instructions its ≤ 24 * total (map nodes there.section.functions) =
         all_short function_code lower nodes there.section.functions
         (its_code_is_short comp there.section there.is) in
@@ -155,12 +156,13 @@ module _ (program : ProgramTree) (typed : IsWellTyped program) (fits : too_large
         (length lowered.functions ≡ length (section_or_none o).functions)
         × (length lowered.globals ≡ length (section_or_none o).globals)
     counts_by comp None is lowered at =
-        let never : None ≡ Some lowered = sym (lowered_at comp None is) ∙ at in absurd (cc)
+        let never : None ≡ Some lowered = sym (tac_by comp None is) ∙ at in absurd (cc)
     counts_by comp (Some section) is lowered at =
-        let same : lowered ≡ lowered_section program.interfaces comp section =
-        same_Some _ _ (sym at ∙ lowered_at comp (Some section) is) in (
+        let same : lowered ≡ section_tac program.interfaces comp section =
+        same_Some _ _ (sym at ∙ tac_by comp (Some section) is) in (
           ap (λ (s : TacSection). length s.functions) same
-              ∙ length-map section.functions (lowered_function program.interfaces comp section.structs),
+              ∙ ap (length {A = TacFnTree}) (functions_are program comp section)
+              ∙ length-map section.functions (function_tac program.interfaces comp section.structs),
           ap (λ (s : TacSection). length s.globals) same,
         )
 
@@ -173,7 +175,7 @@ module _ (program : ProgramTree) (typed : IsWellTyped program) (fits : too_large
         slice_get (functions_in code comp) number ≡ Some f →
         Refers comp (length at.section.functions) (length at.section.globals) (function_code f)
     refers comp number f at its =
-        let rules : IsProgram code = (keeps_rules program typed).programs in
+        let rules : IsProgram code = (tac_rules program typed).rules in
         (emitted comp number f its).names (function code comp at.section) (entry code comp at.section)
         (global code comp at.section)
         (names_all code comp at.section f.body (
@@ -207,5 +209,5 @@ module _ (program : ProgramTree) (typed : IsWellTyped program) (fits : too_large
     }
 
 pub is_linkable : (program : ProgramTree) → IsWellTyped program → too_large program ≡ None → EachEmits program →
-    IsLinkable program (all_codes (lowered_program program))
+    IsLinkable program (all_codes (program_tac program))
 is_linkable program typed fits emitted = linkable program typed fits emitted

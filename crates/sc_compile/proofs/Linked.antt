@@ -2,16 +2,15 @@
 use Rattle.sc_compile.proofs.Common.{Addresses, AreEmitted, AreNamed, CodeTree, EntersBy, EntriesStand, Entry, Export}
 use Rattle.sc_compile.proofs.Common.{Fits, FunctionsStand, GlobalStands, GlobalsAreWords, GlobalsStand, HasCode}
 use Rattle.sc_compile.proofs.Common.{ImageParts, ImportsStand, Instr, IsCodeAddress, IsLinkable, IsLinked, IsStart}
-use Rattle.sc_compile.proofs.Common.{IsWellFormed, IsWellTyped, List, Main, None, Option, ProgramTree, Some, StandFrom}
-use Rattle.sc_compile.proofs.Common.{StandsAt, TacFnTree, TacTree, TypedGlobal, TypedSection, [], addresses_at}
-use Rattle.sc_compile.proofs.Common.{all_codes, ap, arith, assigned, built_image, cell_word, code_globals, comp_at}
-use Rattle.sc_compile.proofs.Common.{comps_length, entry_in, first_at, first_blocks, fits_or_none, frame_of}
-use Rattle.sc_compile.proofs.Common.{function_code, function_entered, functions_in, functions_or_none, global_block}
-use Rattle.sc_compile.proofs.Common.{globals_of, inl, inr, intervals_of, keeps_meaning, length, linked_image}
-use Rattle.sc_compile.proofs.Common.{lowered_program, lowered_section, map, nodes, number_below, option_map}
-use Rattle.sc_compile.proofs.Common.{program_nodes, refl, section_or_none, slice_get, start_memory, struct_zeros, subst}
-use Rattle.sc_compile.proofs.Common.{suc, sym, too_large, total, total_upto, wrapping, ℕ, ◌*◌, ◌+◌, ◌<◌, ◌∙◌, ◌∷◌, ◌≡◌}
-use Rattle.sc_compile.proofs.Common.{◌≤◌, ◌⊎◌}
+use Rattle.sc_compile.proofs.Common.{IsWellFormed, IsWellTyped, List, Main, None, Option, ProgramTree, Some}
+use Rattle.sc_compile.proofs.Common.{StandFrom, StandsAt, TacFnTree, TacTree, TypedGlobal, TypedSection, []}
+use Rattle.sc_compile.proofs.Common.{addresses_at, all_codes, ap, arith, assigned, built_image, cell_word}
+use Rattle.sc_compile.proofs.Common.{code_globals, comp_at, comps_length, entry_in, first_blocks, fits_or_none}
+use Rattle.sc_compile.proofs.Common.{frame_of, function_code, function_entered, functions_in, functions_or_none}
+use Rattle.sc_compile.proofs.Common.{global_block, globals_of, inl, inr, intervals_of, length, linked_image, map}
+use Rattle.sc_compile.proofs.Common.{nodes, number_below, option_map, program_nodes, program_tac, refl}
+use Rattle.sc_compile.proofs.Common.{section_or_none, section_tac, slice_get, start_memory, struct_zeros, subst, suc}
+use Rattle.sc_compile.proofs.Common.{sym, too_large, total, total_upto, ℕ, ◌*◌, ◌+◌, ◌<◌, ◌∙◌, ◌∷◌, ◌≡◌, ◌≤◌, ◌⊎◌}
 use Rattle.std.proofs.Common.{Ok}
 use Rattle.sc_store.specs.Prelude.{ByteMemory, load_of}
 use Rattle.sc_core.specs.Prelude.{cells_at}
@@ -27,7 +26,9 @@ use Rattle.sc_emit_relation.proofs.Access.{living_block}
 use Rattle.sc_linker.proofs.Whole.{linked_images_hold}
 use Rattle.sc_compile.proofs.Codes.{code_there}
 use Rattle.sc_compile.proofs.Linkable.{is_linkable}
-use Rattle.sc_compile.proofs.Results.{mapped, source_of}
+use Rattle.sc_compile.proofs.Lists.{mapped}
+use Rattle.sc_compile.proofs.Results.{source_of}
+use Rattle.sc_compile.proofs.Tac.{means_wrapped, tac_at}
 
 fetches : (image : ImageParts) (comp address to : ℕ) (instr : Instr) → address ≡ to →
     StandsAt image comp address instr → Fetches image comp to instr
@@ -68,7 +69,7 @@ global_there (Some section) number cells is =
 
 module _ (program : ProgramTree) (typed : IsWellTyped program) where
   abbrev code : TacTree
-  code = lowered_program program
+  code = program_tac program
 
   abbrev codes : List CodeTree
   codes = all_codes code
@@ -77,18 +78,18 @@ module _ (program : ProgramTree) (typed : IsWellTyped program) where
   addresses comp = addresses_at program codes comp
 
   same_blocks : (comp : ℕ) (o : Option TypedSection) →
-      code_blocks (option_map (lowered_section program.interfaces comp) o) ≡ first_blocks o
+      code_blocks (option_map (section_tac program.interfaces comp) o) ≡ first_blocks o
   same_blocks comp None = refl
   same_blocks comp (Some section) = refl
 
   globals_same : (comp : ℕ) → code_globals code.sections comp ≡ globals_of program.sections comp
   globals_same comp =
-      ap code_blocks (first_at program.interfaces program.sections comp)
+      ap code_blocks (tac_at program comp)
       ∙ same_blocks comp (slice_get program.sections comp)
 
   entered : (comp number : ℕ) (entry : Entry) → function_entered entry (slice_get code.sections comp) ≡ Some number →
       entry_in program comp entry ≡ Some number
-  entered comp number entry is = (keeps_meaning program typed).entered wrapping comp entry ∙ is
+  entered comp number entry is = (means_wrapped program typed).entered comp entry ∙ is
 
   -- a function is of a compartment that there is
   number_low : (comp number : ℕ) → number < length (functions_in code comp) → comp < 32
@@ -98,8 +99,8 @@ module _ (program : ProgramTree) (typed : IsWellTyped program) where
     by (inl there) = number_below program typed comp there
     by (inr none) =
         let nothing : functions_in code comp ≡ [] =
-        ap functions_or_none (first_at program.interfaces program.sections comp
-        ∙ ap (option_map (lowered_section program.interfaces comp)) none.1) in
+        ap functions_or_none (tac_at program comp
+        ∙ ap (option_map (section_tac program.interfaces comp)) none.1) in
         absurd (omega (arith, within, ap length nothing))
 
   its_nodes : (comp number : ℕ) (f : TacFnTree) → slice_get (functions_in code comp) number ≡ Some f →
@@ -225,7 +226,7 @@ module _ (program : ProgramTree) (typed : IsWellTyped program) where
 
 pub is_linked : (program : ProgramTree) → IsWellTyped program → AreNamed program.interfaces →
     GlobalsAreWords program.sections → too_large program ≡ None → AreEmitted program →
-    IsLinked (lowered_program program) (built_image program) (24 * program_nodes program)
-    (addresses_at program (all_codes (lowered_program program)))
+    IsLinked (program_tac program) (built_image program) (24 * program_nodes program)
+    (addresses_at program (all_codes (program_tac program)))
 is_linked program typed named given fits emitted =
     linked program typed emitted (is_linkable program typed fits emitted.functions) given named

@@ -1,5 +1,6 @@
--- Parts of concatenated lists.
-use Rattle.sc_compile.proofs.Common.{List, [], ap, drop, length, refl, take, ◌++◌, ◌∷◌, ◌≡◌}
+-- Parts of concatenated lists, and lists that were mapped.
+use Rattle.sc_compile.proofs.Common.{List, Some, [], ap, drop, length, map, refl, slice_get, suc, take, zero, ℕ, ◌++◌}
+use Rattle.sc_compile.proofs.Common.{◌∷◌, ◌≡◌}
 
 module _ {A : Type 0} where
   pub take_prefix : (xs ys : List A) → take (length xs) (xs ++ ys) ≡ xs
@@ -9,3 +10,13 @@ module _ {A : Type 0} where
   pub drop_prefix : (xs ys : List A) → drop (length xs) (xs ++ ys) ≡ ys
   drop_prefix [] ys = refl
   drop_prefix (x ∷ xs) ys = drop_prefix xs ys
+
+pub mapped : {A B : Type 0} (g : A → B) (xs : List A) (n : ℕ) (y : B) → slice_get (map g xs) n ≡ Some y →
+    (x : A) × ((slice_get xs n ≡ Some x) × (g x ≡ y))
+mapped g [] n y h = absurd (cc)
+mapped g (x ∷ xs) zero y h = (x, (refl, cc))
+mapped g (x ∷ xs) (suc n) y h = mapped g xs n y h
+
+pub map_twice : {A B C : Type 0} (g : B → C) (f : A → B) (xs : List A) → map g (map f xs) ≡ map (λ x. g (f x)) xs
+map_twice g f [] = refl
+map_twice g f (x ∷ xs) = ap (λ rest. g (f x) ∷ rest) (map_twice g f xs)

@@ -5,7 +5,7 @@ use Rattle.sc_compile.proofs.Common.{map, name_of, names_apart, refl, slice_get,
 use Rattle.sc_compile.proofs.Common.{◌∙◌, ◌∷◌, ◌≡◌, ◌≢◌, ◌≤◌}
 use Rattle.std.proofs.Common.{option_map}
 use Rattle.sc_base.proofs.Texts.{same_text}
-use Rattle.sc_compile.proofs.Results.{mapped}
+use Rattle.sc_compile.proofs.Lists.{mapped}
 
 module _ {A : Type 0} where
   -- the list without the element at a place

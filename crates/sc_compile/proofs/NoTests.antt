@@ -5,13 +5,14 @@ use Rattle.sc_compile.proofs.Common.{IsLinkable, IsWellTyped, List, None, Option
 use Rattle.sc_compile.proofs.Common.{TacStmt, TacStmt-F, TypedFunction, TypedSection, TypedStruct, [], addresses_at}
 use Rattle.sc_compile.proofs.Common.{all_codes, and_first, and_rest, ap, arith, body_code, branch_step, branches}
 use Rattle.sc_compile.proofs.Common.{built_image, codes_at, comp_code, cond, count_by, entry_address, entry_jump}
-use Rattle.sc_compile.proofs.Common.{entry_jumps, exports_at, false, first_at, fold-TacStmt, function_code}
-use Rattle.sc_compile.proofs.Common.{functions_in, functions_or_none, ifs, ifs_step, is_branch, is_ebreak, length}
-use Rattle.sc_compile.proofs.Common.{linked, linked_codes, linked_from, list_all, low_of_target, lower_part}
-use Rattle.sc_compile.proofs.Common.{lowered_function, lowered_program, lowered_section, map, not, of_section}
-use Rattle.sc_compile.proofs.Common.{option_map, option_map_or, part_is, pos, refl, relocations_after, section_at}
-use Rattle.sc_compile.proofs.Common.{slice_get, subst, suc, sym, target_at, test_word, total, true, upper_part}
-use Rattle.sc_compile.proofs.Common.{with_low, with_target, ℕ, ℤ, ◌*◌, ◌++◌, ◌+◌, ◌-ℤ◌, ◌∙◌, ◌∷◌, ◌≡◌, ◌≤◌}
+use Rattle.sc_compile.proofs.Common.{entry_jumps, exports_at, false, fold-TacStmt, function_code, function_tac}
+use Rattle.sc_compile.proofs.Common.{functions_in, functions_or_none, ifs, ifs_step, is_branch}
+use Rattle.sc_compile.proofs.Common.{is_ebreak, length, linked, linked_codes, linked_from, list_all, low_of_target}
+use Rattle.sc_compile.proofs.Common.{lower_part, lowered_function, map, not, of_section, option_map, option_map_or}
+use Rattle.sc_compile.proofs.Common.{part_is, pos, program_tac, refl, relocations_after, section_at}
+use Rattle.sc_compile.proofs.Common.{section_tac, slice_get, subst, suc, sym, target_at, test_word, total, true}
+use Rattle.sc_compile.proofs.Common.{upper_part, with_low, with_target, ℕ, ℤ, ◌*◌, ◌++◌, ◌+◌, ◌-ℤ◌, ◌∙◌, ◌∷◌, ◌≡◌}
+use Rattle.sc_compile.proofs.Common.{◌≤◌}
 use Rattle.rv_code.specs.Prelude.{IsInstr, word_of}
 use Rattle.sc_image.specs.Prelude.{code_in}
 use Rattle.sc_tac.specs.Prelude.{branches as code_ifs}
@@ -34,6 +35,7 @@ use Rattle.sc_compile.specs.Prelude.{HasFewBranches}
 use Rattle.sc_linker.proofs.Linked.{code_instrs}
 use Rattle.sc_linker.proofs.Ready.{can_link}
 use Rattle.sc_compile.proofs.Codes.{codes_are}
+use Rattle.sc_compile.proofs.Tac.{functions_are, tac_at, tac_branches}
 
 -- COUNTS
 pub counted : {X : Type 0} (test : X → Bool) (x : X) (xs : List X) →
@@ -238,10 +240,17 @@ abbrev ifs_of : TacFnTree → ℕ
 ifs_of f = code_ifs f.body
 
 -- of a function that is lowered
-source_ifs : (interfaces : Interfaces) (comp : ℕ) (structs : List TypedStruct) (f : TypedFunction) →
+lowered_ifs : (interfaces : Interfaces) (comp : ℕ) (structs : List TypedStruct) (f : TypedFunction) →
     ifs_of (lowered_function interfaces comp structs f) ≡ branches f
-source_ifs interfaces comp structs f =
+lowered_ifs interfaces comp structs f =
     same_ifs (body_code structs f 0).code ∙ keeps_branches.functions structs f
+
+-- and optimised
+source_ifs : (interfaces : Interfaces) (comp : ℕ) (structs : List TypedStruct) (f : TypedFunction) →
+    ifs_of (function_tac interfaces comp structs f) ≤ branches f
+source_ifs interfaces comp structs f =
+    subst (λ n. ifs_of (function_tac interfaces comp structs f) ≤ n) (lowered_ifs interfaces comp structs f)
+    (tac_branches (lowered_function interfaces comp structs f))
 
 -- STRETCHES
 all_first : {X : Type 0} (P : X → Type 0) (xs ys : List X) → All P (xs ++ ys) → All P xs
@@ -289,40 +298,40 @@ module _ (A : Addresses) (code : TypedFunction → CodeTree) where
 
 module _ (program : ProgramTree) (typed : IsWellTyped program) where
   abbrev codes : List CodeTree
-  codes = all_codes (lowered_program program)
+  codes = all_codes (program_tac program)
 
   module _ (linkable : IsLinkable program codes) (emitted : AreEmitted program) (comp : ℕ) (section : TypedSection)
       (is : slice_get program.sections comp ≡ Some section)
     where
-      abbrev lowered : List TacFnTree
-      lowered = functions_in (lowered_program program) comp
+      abbrev tacs : List TacFnTree
+      tacs = functions_in (program_tac program) comp
 
-      lowered_are : lowered ≡ map (lowered_function program.interfaces comp section.structs) section.functions
-      lowered_are =
-          ap functions_or_none (first_at program.interfaces program.sections comp
-          ∙ ap (option_map (lowered_section program.interfaces comp)) is)
+      tacs_are : tacs ≡ map (function_tac program.interfaces comp section.structs) section.functions
+      tacs_are =
+          ap functions_or_none (tac_at program comp ∙ ap (option_map (section_tac program.interfaces comp)) is)
+          ∙ functions_are program comp section
 
       total_at_most : (test : Instr → Bool) (bound : TacFnTree → ℕ) → AreSkipped test →
-          ((number : ℕ) (f : TacFnTree) → slice_get lowered number ≡ Some f →
+          ((number : ℕ) (f : TacFnTree) → slice_get tacs number ≡ Some f →
           count_by test (function_code f).instrs ≤ bound f) →
-          count_by test (comp_code program codes comp) ≤ total (map bound lowered)
+          count_by test (comp_code program codes comp) ≤ total (map bound tacs)
       total_at_most test bound skipped each =
           by (count_by test (comp_code program codes comp))
-          (total (map {A = CodeTree} (λ code. count_by test code.instrs) (map function_code lowered)))
-          (total (map bound lowered))
+          (total (map {A = CodeTree} (λ code. count_by test code.instrs) (map function_code tacs)))
+          (total (map bound tacs))
           (comp_counted test skipped program codes comp
           ∙ ap (λ cs. total (map {A = CodeTree} (λ code. count_by test code.instrs) cs)) (codes_are program comp))
-          (totals function_code (λ (code : CodeTree). count_by test code.instrs) bound lowered each) where
+          (totals function_code (λ (code : CodeTree). count_by test code.instrs) bound tacs each) where
             by : (a b c : ℕ) → a ≡ b → b ≤ c → a ≤ c
             by a b c same most = omega (arith, same, most)
 
       no_ebreaks : count_by is_ebreak (comp_code program codes comp) ≡ 0
       no_ebreaks =
-          by (count_by is_ebreak (comp_code program codes comp)) (total (map (λ f. 0) lowered))
+          by (count_by is_ebreak (comp_code program codes comp)) (total (map (λ f. 0) tacs))
           (total_at_most is_ebreak (λ f. 0) ebreak_skipped
           (λ number f there. none (count_by is_ebreak (function_code f).instrs)
           (none_counted (function_code f).instrs (emitted.functions comp number f there).no_ebreak)))
-          (nothing lowered) where
+          (nothing tacs) where
             by : (a b : ℕ) → a ≤ b → b ≡ 0 → a ≡ 0
             by a b most same = omega (arith, same, most)
 
@@ -341,7 +350,7 @@ module _ (program : ProgramTree) (typed : IsWellTyped program) where
       code_is = ap (λ o. option_map_or (λ (part : CompPart). part.code) o []) (part_is program codes comp fits)
 
       abbrev lower : TypedFunction → TacFnTree
-      lower = lowered_function program.interfaces comp section.structs
+      lower = function_tac program.interfaces comp section.structs
 
       abbrev addresses : Addresses
       addresses = addresses_at program codes comp
@@ -360,18 +369,18 @@ module _ (program : ProgramTree) (typed : IsWellTyped program) where
       twice (f ∷ fs) = ap (λ rest. function_code (lower f) ∷ rest) (twice fs)
 
       own_codes : codes_at program codes comp ≡ map (λ f. function_code (lower f)) section.functions
-      own_codes = codes_are program comp ∙ (ap (map function_code) lowered_are ∙ twice section.functions)
+      own_codes = codes_are program comp ∙ (ap (map function_code) tacs_are ∙ twice section.functions)
 
       function_few : (number : ℕ) (f : TypedFunction) → slice_get section.functions number ≡ Some f →
           count_by is_branch (function_code (lower f)).instrs ≤ branches f
       function_few number f its =
           let few = (emitted.functions comp number (lower f)
-          (ap (λ fs. slice_get fs number) lowered_are ∙ (slice_get-map lower section.functions number ∙
+          (ap (λ fs. slice_get fs number) tacs_are ∙ (slice_get-map lower section.functions number ∙
           ap (option_map lower) its))).branches in
           by (count_by is_branch (function_code (lower f)).instrs) (ifs_of (lower f)) (branches f) few
           (source_ifs program.interfaces comp section.structs f) where
-            by : (a b c : ℕ) → a ≤ b → b ≡ c → a ≤ c
-            by a b c most same = omega (arith, same, most)
+            by : (a b c : ℕ) → a ≤ b → b ≤ c → a ≤ c
+            by a b c most more = omega (arith, most, more)
 
       few_each : AllZip HasFewBranches section.functions
           (function_words addresses begins (codes_at program codes comp))
@@ -396,7 +405,7 @@ module _ (program : ProgramTree) (typed : IsWellTyped program) where
       }
 
 pub no_tests : (program : ProgramTree) → IsWellTyped program →
-    IsLinkable program (all_codes (lowered_program program)) → AreEmitted program →
+    IsLinkable program (all_codes (program_tac program)) → AreEmitted program →
     (comp : ℕ) (section : TypedSection) → slice_get program.sections comp ≡ Some section →
     HasNoTests section (code_in (built_image program) comp)
 no_tests program typed linkable emitted comp section is =

@@ -3,7 +3,7 @@ use Rattle.sc_compile.proofs.Common.{All, Bool, HasNoTests, ImageParts, IsCompil
 use Rattle.sc_compile.proofs.Common.{Some, TypedFunction, TypedSection, [], ap, ap₂, arith, c_arith, cond, count_by}
 use Rattle.sc_compile.proofs.Common.{false}
 use Rattle.sc_compile.proofs.Common.{frame_bound, if◌then◌else◌, is_branch, leb-true, machine, nodes, program_nodes}
-use Rattle.sc_compile.proofs.Common.{refl, subst, suc, sym, test_word, true, variables, zero, ℕ, ⊎_elim, ◌&&◌, ◌*◌}
+use Rattle.sc_compile.proofs.Common.{refl, suc, sym, test_word, true, variables, zero, ℕ, ⊎_elim, ◌&&◌, ◌*◌}
 use Rattle.sc_compile.proofs.Common.{◌++◌}
 use Rattle.sc_compile.proofs.Common.{◌+◌, ◌<◌, ◌==◌, ◌∙◌, ◌∷◌, ◌≡◌, ◌≤◌}
 use Rattle.std.specs.Prelude.{codes, max, ◌-◌}
@@ -12,7 +12,6 @@ use Rattle.std.proofs.lemmas.List.Elements.{All-head, All-nil, All-tail}
 use Rattle.sc_base.specs.declared.op.BinaryOp.TheVariants.{Div}
 use Rattle.sc_base.specs.declared.stop.Stop.{Stop}
 use Rattle.sc_base.specs.declared.stop.TrapReason.{TrapReason}
-use Rattle.sc_event.specs.declared.event.Event.{Event}
 use Rattle.sc_event.specs.declared.event.Event.TheVariants.{End}
 use Rattle.sc_core.specs.Prelude.{depth_by, meaning_by}
 use Rattle.sc_core.specs.declared.expr.TypedExpr.{TypedExpr}
@@ -20,7 +19,7 @@ use Rattle.sc_core.specs.declared.expr.TypedKind.TheOpen as term
 use Rattle.sc_core.specs.declared.stmt.TypedStmtKind.TheOpen as layer
 use Rattle.sc_core.specs.declared.ty.Ty.TheVariants.{Int}
 use Rattle.sc_core.proofs.Layers.{expr_at, on_line, stmt_at, typed}
-use Rattle.sc_image.specs.Machine.{after, run, stopped, stops_or}
+use Rattle.sc_image.specs.Machine.{after, run, run_by, stopped, stops_or}
 use Rattle.sc_image.specs.Prelude.{MachineRun, MachineState, Traps, start, step}
 use Rattle.sc_lower.specs.Branches.{branches, expr_branches, kind_branches, term_branches}
 use Rattle.sc_compile.specs.Prelude.{HasFewBranches}
@@ -75,11 +74,11 @@ stays _ state later is = is
 
 trapped : (image : ImageParts) (reason : TrapReason) → step image [] (start image) ≡ Traps reason →
     (events steps : ℕ) → (run image [] events steps (start image)).state ≡ start image
-unfolding run
+unfolding run_by
 trapped image reason traps events zero = stays (stopped events (start image).trace) (start image) _ refl
 trapped image reason traps events (suc steps) =
     stays (stopped events (start image).trace) (start image) _
-    (ap (λ outcome. (after (start image) outcome (run image [] events steps)).state) traps)
+    (ap (λ outcome. (after (start image).pc (start image) outcome (run image [] events steps)).state) traps)
 
 trap_is_refused : (image : ImageParts) (reason : TrapReason) → step image [] (start image) ≡ Traps reason →
     IsCompiled alone image → ⊥

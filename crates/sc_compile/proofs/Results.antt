@@ -1,25 +1,21 @@
--- What the functions of lowered code return: values of the kinds that their sources promise.
-use Rattle.sc_compile.proofs.Common.{Export, GivesResults, Here, IsSome, IsWellTyped, List, Main, None, Option, Piece}
-use Rattle.sc_compile.proofs.Common.{ProgramTree, Proto, Reached, Roles, Some, State, Stopped, TacFnTree, TypedFunction}
-use Rattle.sc_compile.proofs.Common.{TypedSection, [], and_first, and_rest, ap, are_distinct, bodies, bytes_eq}
-use Rattle.sc_compile.proofs.Common.{crossing, export_at, false, first_at, found_passes, function_entered, functions_in}
-use Rattle.sc_compile.proofs.Common.{functions_or_none, import_name, is_some, keeps_meaning, lowered_function}
-use Rattle.sc_compile.proofs.Common.{lowered_program, lowered_section, main_fits, main_name, main_signature, main_so}
-use Rattle.sc_compile.proofs.Common.{map, named_so, of_section, option_map, option_value, own_names_differ}
-use Rattle.sc_compile.proofs.Common.{piece_without_line, place_named, refl, same_results, same_signature, same_types}
-use Rattle.sc_compile.proofs.Common.{signature_of, slice_get, subst, suc, sym, true, wrapping, zero, ℕ, ◌∙◌, ◌∷◌, ◌≡◌}
+-- What the functions of a program's code return: values of the kinds that their sources promise.
+use Rattle.sc_compile.proofs.Common.{Export, GivesResults, Here, IsSome, IsWellTyped, Main, None, Option, Piece}
+use Rattle.sc_compile.proofs.Common.{ProgramTree, Proto, Reached, Roles, Some, State, Stopped, TacFnTree}
+use Rattle.sc_compile.proofs.Common.{TypedFunction, TypedSection, [], and_first, and_rest, ap, are_distinct, bodies}
+use Rattle.sc_compile.proofs.Common.{bytes_eq, crossing, export_at, false, found_passes, function_entered}
+use Rattle.sc_compile.proofs.Common.{function_tac, functions_in, functions_or_none, import_name, is_some}
+use Rattle.sc_compile.proofs.Common.{main_fits, main_name, main_signature, main_so, map, named_so, of_section}
+use Rattle.sc_compile.proofs.Common.{option_map, option_value, own_names_differ, piece_without_line, place_named}
+use Rattle.sc_compile.proofs.Common.{program_tac, refl, same_results, same_signature, same_types, section_tac}
+use Rattle.sc_compile.proofs.Common.{signature_of, slice_get, subst, sym, true, wrapping, ℕ, ◌∙◌, ◌≡◌}
 use Rattle.sc_core.specs.declared.ty.Ty.{Ty}
 use Rattle.sc_core.specs.declared.ty.Ty.TheVariants as ty
 use Rattle.sc_core.specs.declared.value.Value.{Value}
 use Rattle.sc_core.specs.declared.value.Value.TheVariants.{Null, Ptr, Word}
 use Rattle.sc_core_kind_laws.specs.Kinds.{bodies_of, function_at, returns_kind, section_functions}
 use Rattle.sc_core_kind_laws.proofs.Kinded.{results_have_kinds}
-
-pub mapped : {A B : Type 0} (g : A → B) (xs : List A) (n : ℕ) (y : B) → slice_get (map g xs) n ≡ Some y →
-    (x : A) × ((slice_get xs n ≡ Some x) × (g x ≡ y))
-mapped g [] n y h = absurd (cc)
-mapped g (x ∷ xs) zero y h = (x, (refl, cc))
-mapped g (x ∷ xs) (suc n) y h = mapped g xs n y h
+use Rattle.sc_compile.proofs.Lists.{mapped}
+use Rattle.sc_compile.proofs.Tac.{functions_are, means_wrapped, tac_at}
 
 -- two pieces that agree come to the same value
 came_too : (o p : Piece (Option Value)) (v : Option Value) (t : State) →
@@ -55,31 +51,32 @@ module _ (program : ProgramTree) (typed : IsWellTyped program) where
     pub is : slice_get program.sections comp ≡ Some section
     pub source : TypedFunction
     pub its : slice_get section.functions number ≡ Some source
-    pub same : lowered_function program.interfaces comp section.structs source ≡ f
+    pub same : function_tac program.interfaces comp section.structs source ≡ f
 
   source_by : (comp number : ℕ) (f : TacFnTree) (o : Option TypedSection) → slice_get program.sections comp ≡ o →
-      slice_get (functions_or_none (option_map (lowered_section program.interfaces comp) o)) number ≡ Some f →
+      slice_get (functions_or_none (option_map (section_tac program.interfaces comp) o)) number ≡ Some f →
       Source comp number f
   source_by comp number f None is h = absurd (cc)
   source_by comp number f (Some section) is h =
-      let found = mapped (lowered_function program.interfaces comp section.structs) section.functions number f h in
+      let found = mapped (function_tac program.interfaces comp section.structs) section.functions number f
+      (ap (λ fs. slice_get fs number) (sym (functions_are program comp section)) ∙ h) in
       record { section = section; is = is; source = found.0; its = found.1.0; same = found.1.1 }
 
   pub source_of : (comp number : ℕ) (f : TacFnTree) →
-      slice_get (functions_in (lowered_program program) comp) number ≡ Some f → Source comp number f
+      slice_get (functions_in (program_tac program) comp) number ≡ Some f → Source comp number f
   source_of comp number f h =
       source_by comp number f (slice_get program.sections comp) refl
       (ap (λ o. slice_get (functions_or_none o) number)
-      (sym (first_at program.interfaces program.sections comp)) ∙ h)
+      (sym (tac_at program comp)) ∙ h)
 
   -- what code comes to its source comes to
   from_code : (roles : Roles) (open_calls number : ℕ) (here : Here) (s t : State) (v : Option Value) →
-      bodies (lowered_program program) roles open_calls number here s ≡ Reached v t →
+      bodies (program_tac program) roles open_calls number here s ≡ Reached v t →
       bodies_of wrapping program roles open_calls number here s ≡ Reached v t
   from_code roles open_calls number here s t v is =
       came_too (bodies_of wrapping program roles open_calls number here s)
-      (bodies (lowered_program program) roles open_calls number here s) v t
-      ((keeps_meaning program typed).bodies wrapping roles open_calls number here s).same is
+      (bodies (program_tac program) roles open_calls number here s) v t
+      ((means_wrapped program typed).bodies roles open_calls number here s).same is
 
   function_there : (comp number : ℕ) (section : TypedSection) (f : TypedFunction) →
       slice_get program.sections comp ≡ Some section → slice_get section.functions number ≡ Some f →
@@ -110,9 +107,9 @@ module _ (program : ProgramTree) (typed : IsWellTyped program) where
 
   module _ (roles : Roles) where
     given : (open_calls number : ℕ) (here : Here) (f : TacFnTree) (s t : State) (v : Option Value) →
-        roles.scripted here.comp ≡ false → slice_get (functions_in (lowered_program program) here.comp)
+        roles.scripted here.comp ≡ false → slice_get (functions_in (program_tac program) here.comp)
         number ≡ Some f →
-        f.result ≡ true → bodies (lowered_program program) roles open_calls number here s ≡ Reached v t → IsSome v
+        f.result ≡ true → bodies (program_tac program) roles open_calls number here s ≡ Reached v t → IsSome v
     given open_calls number here f s t v plain there result is =
         let from = source_of here.comp number f there in
         some_given v from.source.result
@@ -123,22 +120,22 @@ module _ (program : ProgramTree) (typed : IsWellTyped program) where
 
     crosses : (open_calls index number : ℕ) (here : Here) (proto : Proto) (s t : State) (v : Option Value) →
         roles.scripted here.comp ≡ false → export_at program.interfaces here.comp index ≡ Some proto →
-        function_entered (Export index) (slice_get (lowered_program program).sections here.comp) ≡ Some number →
-        bodies (lowered_program program) roles open_calls number here s ≡ Reached v t →
+        function_entered (Export index) (slice_get (program_tac program).sections here.comp) ≡ Some number →
+        bodies (program_tac program) roles open_calls number here s ≡ Reached v t →
         option_value (crossing (Some proto) v) ≡ v
     crosses open_calls index number here proto s t v plain export entered is =
         results_have_kinds.crosses wrapping program typed roles open_calls index number here proto plain export
-        ((keeps_meaning program typed).entered wrapping here.comp (Export index) ∙ entered) s t v
+        ((means_wrapped program typed).entered here.comp (Export index) ∙ entered) s t v
         (from_code roles open_calls number here s t v is)
 
     ends : (open_calls number : ℕ) (here : Here) (s t : State) (v : Option Value) →
         roles.scripted here.comp ≡ false → here.comp ≡ program.interfaces.main →
-        function_entered Main (slice_get (lowered_program program).sections here.comp) ≡ Some number →
-        bodies (lowered_program program) roles open_calls number here s ≡ Reached v t →
+        function_entered Main (slice_get (program_tac program).sections here.comp) ≡ Some number →
+        bodies (program_tac program) roles open_calls number here s ≡ Reached v t →
         (w : ℕ) × (v ≡ Some (Word w))
     ends open_calls number here s t v plain main entered is =
         by (slice_get program.sections here.comp) refl
-        ((keeps_meaning program typed).entered wrapping here.comp Main ∙ entered) where
+        ((means_wrapped program typed).entered here.comp Main ∙ entered) where
           by : (o : Option TypedSection) → slice_get program.sections here.comp ≡ o →
               place_named main_name o ≡ Some number → (w : ℕ) × (v ≡ Some (Word w))
           by None there place = absurd (cc)
@@ -150,7 +147,7 @@ module _ (program : ProgramTree) (typed : IsWellTyped program) where
               (function_there here.comp number section f.0 there f.1.0) s t v
               (from_code roles open_calls number here s t v is)))
 
-    pub gives_results : GivesResults (lowered_program program) roles
+    pub gives_results : GivesResults (program_tac program) roles
     gives_results = record {
       given = given;
       crosses = crosses;

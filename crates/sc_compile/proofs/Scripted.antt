@@ -1,7 +1,7 @@
 -- The program in which a set performs its part of the machine's trace, by the run of its code.
-use Rattle.sc_compile.proofs.Common.{Bool, EmitsOrIsBlamed, Event, IsBlamed, IsStop, IsWellTyped, KeepsTo, List}
-use Rattle.sc_compile.proofs.Common.{ProgramTree, Run, CompSet, ap, c_arith, false, inl, inr, keeps_meaning, length}
-use Rattle.sc_compile.proofs.Common.{lowered_program, ltb-false, ltb-true, nat_lt, refl, scripted_by, scripted_code_run}
+use Rattle.sc_compile.proofs.Common.{Bool, CompSet, EmitsOrIsBlamed, Event, IsBlamed, IsStop, IsWellTyped, KeepsTo}
+use Rattle.sc_compile.proofs.Common.{List, ProgramTree, Run, ap, c_arith, false, inl, inr, length, ltb-false}
+use Rattle.sc_compile.proofs.Common.{ltb-true, nat_lt, program_tac, refl, scripted_by, scripted_code_run}
 use Rattle.sc_compile.proofs.Common.{scripted_run_of, shorter_first, subst, sym, true, unstopped, wrapped_code_agrees}
 use Rattle.sc_compile.proofs.Common.{wrapping, ℕ, ⊎_elim, ◌<◌, ◌∙◌, ◌≡◌}
 use Rattle.sc_base.specs.Prelude.{IsPrefix}
@@ -14,6 +14,7 @@ use Rattle.sc_core_laws.proofs.Growing.{prefix_same}
 use Rattle.sc_core_laws.proofs.Runs.{trace_is}
 use Rattle.sc_emit_run_laws.proofs.Along.{take_prefix}
 use Rattle.sc_emit_run_laws.proofs.Kept.{keeps_along, keeps_until_blame}
+use Rattle.sc_compile.proofs.Tac.{means_in_c}
 
 -- a blame with its compartment
 record IsBlame (end : RunEnd) : Type 0 where
@@ -43,15 +44,15 @@ module _ (program : ProgramTree) (typed : IsWellTyped program) (set : CompSet) (
   cut = scripted_by c_arith program set observed inputs turns (length observed)
 
   -- what the code keeps to its program keeps to
-  program_keeps : KeepsTo observed (scripted_code_run wrapping (lowered_program program) inputs turns set
+  program_keeps : KeepsTo observed (scripted_code_run wrapping (program_tac program) inputs turns set
       observed).behaviour →
       KeepsTo observed whole.behaviour
   program_keeps keeps =
-      keeps_along observed whole (scripted_code_run c_arith (lowered_program program) inputs turns set observed)
-      ((keeps_meaning program typed).scripted c_arith inputs turns set observed)
-      (keeps_until_blame observed (scripted_code_run c_arith (lowered_program program) inputs turns set observed)
-      (scripted_code_run wrapping (lowered_program program) inputs turns set observed)
-      (wrapped_code_agrees.scripted (lowered_program program) set observed inputs turns) keeps)
+      keeps_along observed whole (scripted_code_run c_arith (program_tac program) inputs turns set observed)
+      ((means_in_c program typed).scripted inputs turns set observed)
+      (keeps_until_blame observed (scripted_code_run c_arith (program_tac program) inputs turns set observed)
+      (scripted_code_run wrapping (program_tac program) inputs turns set observed)
+      (wrapped_code_agrees.scripted (program_tac program) set observed inputs turns) keeps)
 
   observed_all : IsPrefix observed whole.behaviour.trace → cut.trace ≡ observed
   observed_all prefix =
@@ -95,6 +96,6 @@ module _ (program : ProgramTree) (typed : IsWellTyped program) (set : CompSet) (
 
   -- where the run of the code keeps to the trace
   pub scripted_emits :
-      KeepsTo observed (scripted_code_run wrapping (lowered_program program) inputs turns set observed).behaviour →
+      KeepsTo observed (scripted_code_run wrapping (program_tac program) inputs turns set observed).behaviour →
       EmitsOrIsBlamed (length program.sections) set observed cut
   scripted_emits keeps = emits_or_is_blamed (program_keeps keeps)

@@ -1,9 +1,9 @@
 -- Helping: what the passes give of a program's functions.
 use Rattle.sc_core.specs.Prelude.{bytes_a_node, most_code, most_frame}
 use Rattle.sc_compile.specs.Common.{IsEmitted, IsWhole, ProgramTree, TacFnTree, TacSection, assigned, frame_bound}
-use Rattle.sc_compile.specs.Common.{frame_of, functions_in, intervals_of, lowered_program}
+use Rattle.sc_compile.specs.Common.{frame_of, functions_in, intervals_of}
 use Rattle.std.specs.Prelude.{◌≡◌, ◌≤◌, ◌*◌, ℕ, All, Some, slice_get}
-use Rattle.sc_compile.specs.Image.{all_codes, function_code}
+use Rattle.sc_compile.specs.Image.{all_codes, function_code, program_tac}
 
 -- a function that isn't too large
 pub record Fits (f : TacFnTree) : Type 0 where
@@ -23,9 +23,9 @@ EmitsAll section = All EmitsSo section.functions
 -- that of each function of a program does
 abbrev pub EachEmits : ProgramTree → Type 0
 EachEmits program = (comp number : ℕ) (f : TacFnTree) →
-    slice_get (functions_in (lowered_program program) comp) number ≡ Some f → EmitsSo f
+    slice_get (functions_in (program_tac program) comp) number ≡ Some f → EmitsSo f
 
 -- and consists of instructions that there are
 pub record AreEmitted (program : ProgramTree) : Type 0 where
   pub functions : EachEmits program
-  pub whole : All IsWhole (all_codes (lowered_program program))
+  pub whole : All IsWhole (all_codes (program_tac program))

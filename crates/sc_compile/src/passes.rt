@@ -2,7 +2,7 @@
 
 ghost use Rattle.sc_compile.specs.Prelude.{EmitsAll, EmitsSo, FitAll, Fits, HasParts, IsCompiled, IsFault};
 ghost use Rattle.sc_compile.specs.Prelude.{IsWellTyped, built_image, frame_bound, function_code, image_of};
-ghost use Rattle.sc_compile.specs.Prelude.{section_codes, too_large};
+ghost use Rattle.sc_compile.specs.Prelude.{program_tac, section_codes, too_large};
 ghost use Rattle.sc_lower.specs.Prelude.{lowered_program};
 ghost use Rattle.sc_emit.specs.Prelude.{IsEmitted};
 ghost use Rattle.std.specs.Prelude.{◌≡◌, ◌++◌, Ok, None, Some, All, IfErr, IfOk, OnOk, flat_map, map};
@@ -20,6 +20,7 @@ use sc_image::Image;
 use sc_linker::link;
 use sc_live::intervals;
 use sc_lower::lower;
+use sc_opt::optimise;
 use sc_tac::{Code, Tac, TacFn, TacSection};
 use sqlite_items::Items;
 use std::alloc::Global;
@@ -67,7 +68,7 @@ fn all_codes(alloc: Global, sections: &[TacSection]) -> Result<Codes, OutOfMemor
 
 // The image of a program that fits, of this code.
 fn build(alloc: Global, program: &Program, tac: &Tac) -> Result<Image, OutOfMemory>
-    requires lowered { tac.now ≡ lowered_program program.now }
+    requires tac { tac.now ≡ program_tac program.now }
     requires fits { too_large program.now ≡ None }
     ensures image { IfOk result (λ image. image ≡ built_image program.now) }
     ensures compiled { IfOk result (IsCompiled program.now) }
@@ -79,7 +80,7 @@ fn build(alloc: Global, program: &Program, tac: &Tac) -> Result<Image, OutOfMemo
     Ok(image)
 }
 
-// Whether the program fits, by its code.
+// Whether the program fits, by its lowered code.
 fn check(program: &Program, tac: &Tac) -> Result<(), CompileFault>
     requires { tac.now ≡ lowered_program program.now }
     ensures none { IfOk result (λ _. too_large program.now ≡ None) }
@@ -90,8 +91,8 @@ fn check(program: &Program, tac: &Tac) -> Result<(), CompileFault>
     check_sizes(tac.tree().sections.as_slice())
 }
 
-/// The image of a program: lowered to three-address code, with registers by linear scan, frames laid out, instructions
-/// selected and linked.
+/// The image of a program: lowered to three-address code that is optimised, with registers by linear scan, frames laid
+/// out, instructions selected and linked.
 pub fn compile(alloc: Global, program: &Program) -> Result<Image, CompileFault>
     ensures image { IfOk result (λ image. image_of program.now ≡ Ok image) }
     ensures fault { IfErr result (IsFault program.now) }
@@ -99,10 +100,13 @@ pub fn compile(alloc: Global, program: &Program) -> Result<Image, CompileFault>
     // Each compartment of the image is made of its own section.
     ensures parts { IfOk result (HasParts program.now) }
 {
-    let Ok(tac) = lower(alloc, program) else {
+    let Ok(lowered) = lower(alloc, program) else {
         return Err(CompileFault::OutOfMemory);
     };
-    check(program, &tac)?;
+    check(program, &lowered)?;
+    let Ok(tac) = optimise(alloc, &lowered) else {
+        return Err(CompileFault::OutOfMemory);
+    };
     match build(alloc, program, &tac) {
         Ok(image) => Ok(image),
         Err(_) => Err(CompileFault::OutOfMemory),

@@ -32,7 +32,7 @@ pub use Rattle.sc_core.specs.Tree.{is_unsigned_op, kind_step, literal, meant, me
 pub use Rattle.sc_core.specs.Tree.{stmt_does, stmt_step, store_at, store_result, term_step, test, values, variable_at}
 pub use Rattle.sc_core.specs.Tree.{wanted, ways}
 pub use Rattle.sc_core.specs.Types.{base_cells, cells_of, is_array, is_pointer, is_unsigned, starred_cells}
-pub use Rattle.sc_core.specs.Types.{most_cells, struct_cells, target_cells, variables}
+pub use Rattle.sc_core.specs.Types.{most_cells, size_in_bytes, struct_cells, target_cells, variables}
 pub use Rattle.sc_core.specs.Typing.{Callable, Judged, Scope, Signature, all_go_into, allowed, are_equatable}
 pub use Rattle.sc_core.specs.Typing.{are_ordered, args_fit, assign_call_fits, assign_fits, binary_fits, body_fits}
 pub use Rattle.sc_core.specs.Typing.{both_ints, call_fits, common, count_fits, decayed, difference_fits, goes_into}

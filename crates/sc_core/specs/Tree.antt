@@ -1,6 +1,6 @@
 -- What expressions give and what statements do, as folds of the typed trees (C11 6.5, 6.8).
 use Rattle.sc_core.specs.Common.{BinaryOp}
-use Rattle.std.specs.Prelude.{ℕ, pos, ◌+◌, ◌*◌, ◌%◌, ◌^◌, Bool, ◌||◌, if◌then◌else◌, List, [], ◌∷◌, map, Option, None}
+use Rattle.std.specs.Prelude.{ℕ, pos, ◌+◌, Bool, ◌||◌, if◌then◌else◌, List, [], ◌∷◌, map, Option, None}
 use Rattle.std.specs.Prelude.{Some}
 use Rattle.std.specs.Prelude.{Result, Ok}
 use Rattle.sc_core.specs.declared.cause.Cause.{Cause}
@@ -25,7 +25,7 @@ use Rattle.sc_core.specs.declared.value.Want.{Want}
 use Rattle.sc_core.specs.declared.value.Want.TheVariants as want
 use Rattle.sc_core.specs.Memory.{Blocks, bind, load, store}
 use Rattle.sc_core.specs.Value.{Arith, is_true, of_bool, moved, moved_on, moved_back, between, on_words, applied_one}
-use Rattle.sc_core.specs.Types.{is_unsigned, is_array, is_pointer, target_cells}
+use Rattle.sc_core.specs.Types.{is_unsigned, is_array, is_pointer, size_in_bytes, target_cells}
 use Rattle.sc_core.specs.Combinators.{State, Here, Piece, and_then, computed, Next, Break, Continue, Return, Does}
 use Rattle.sc_core.specs.Combinators.{leave, stored, follow, in_order, all_do, loop, choose, Calls}
 use Rattle.sc_core.specs.Combinators.{elements_allocated, released}
@@ -179,7 +179,7 @@ module _ (arith : Arith) (structs : List TypedStruct) where
         bind (a.way want.Value blocks) (moved blocks (pos offset)))
     term_step (term.Deref a) ty = at_place ty (a.way want.Value)
     term_step (term.Address a) ty = no_place (a.way want.Place)
-    term_step (term.SizeOf cells) ty = no_place (λ blocks. Ok (Word (4 * cells % 2 ^ 32)))
+    term_step (term.SizeOf cells) ty = no_place (λ blocks. Ok (Word (size_in_bytes cells)))
 
     abbrev pub meant : TypedExpr → Meant
     meant = fold-TypedExpr (Ty → Ways) Meant term_step meant_step

@@ -1,5 +1,6 @@
 -- Types as the meaning reads them, and how many cells they take (C11 6.2.5, 6.3.2.1, 6.7.2.1).
-use Rattle.std.specs.Prelude.{ℕ, zero, suc, ◌-◌, ◌*◌, ◌++◌, Bool, true, false, List, map, Option, None, Some, slice_get}
+use Rattle.std.specs.Prelude.{ℕ, zero, suc, ◌-◌, ◌*◌, ◌%◌, ◌^◌, ◌++◌, Bool, true, false, List, map, Option}
+use Rattle.std.specs.Prelude.{None, Some, slice_get}
 use Rattle.sc_core.specs.declared.ty.Ty.{Ty}
 use Rattle.sc_core.specs.declared.ty.Ty.TheVariants as ty
 use Rattle.sc_core.specs.declared.ty.BaseTy.{BaseTy}
@@ -26,6 +27,10 @@ is_pointer _ = false
 -- cells of a variable, and of a struct
 abbrev pub most_cells : ℕ
 most_cells = 1048576
+
+-- the size of that many cells in bytes, a word (C11 6.5.3.4)
+abbrev pub size_in_bytes : ℕ → ℕ
+size_in_bytes cells = 4 * cells % 2 ^ 32
 
 abbrev pub struct_cells : Option TypedStruct → ℕ
 struct_cells None = 0

@@ -24,3 +24,5 @@ pub mod Statements
 pub mod Turns
 pub mod Related
 pub mod Wrapping
+pub mod Promises
+pub mod WordBounds

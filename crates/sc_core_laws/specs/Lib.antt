@@ -7,6 +7,7 @@ pub mod Growth
 pub mod InteractionTrees
 pub mod Laws
 pub mod Lines
+pub mod Promises
 pub mod Depths
 pub mod Runs
 pub mod Steady

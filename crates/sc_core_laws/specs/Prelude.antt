@@ -18,6 +18,8 @@ pub use Rattle.sc_core_laws.specs.Laws.{HasFixedPoint, HoldsOfSets, IsFixed, IsS
 pub use Rattle.sc_core_laws.specs.Laws.{LeastIsChain, LeavesDepths, MeaningGoesOn, MoreGoesOn, MoreMayPerform}
 pub use Rattle.sc_core_laws.specs.Laws.{NobodyWhoPerformsIsBlamed, OnlyGoesOn, PassesBlames, ProgramsObey}
 pub use Rattle.sc_core_laws.specs.Laws.{TracesAreLegal, WrappedAgrees, WrappingAgrees}
+pub use Rattle.sc_core_laws.specs.Promises.{AgreeWithPromises, CallsGive, DenotationsAgreeWithPromises, HeadersAgree}
+pub use Rattle.sc_core_laws.specs.Promises.{IfReached, Promised, Promises, PromisingRunAlike, promised_by}
 pub use Rattle.sc_core_laws.specs.Runs.{denotations_run, performed_by, roles_run}
 pub use Rattle.sc_core_laws.specs.Steady.{AgreesInDepth, AgreesUntilBlame, ExtendedByMore, Extends, RunsUntilBlame}
 pub use Rattle.sc_core_laws.specs.Steady.{blamed, blamed_run, now, same, same_run}

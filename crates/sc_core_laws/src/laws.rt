@@ -4,7 +4,8 @@ ghost use Rattle.sc_core_laws.specs.Prelude.{AgreeingRunAlike, BlameIsPassed, Bl
 ghost use Rattle.sc_core_laws.specs.Prelude.{ChainExists, ChainIsLeast, ChainsRise, DeepestIsReached, DepthsAreKept};
 ghost use Rattle.sc_core_laws.specs.Prelude.{EmptySetIsMeaning, FixedPoint, MeaningGoesOn, MoreGoesOn, MoreMayPerform};
 ghost use Rattle.sc_core_laws.specs.Prelude.{NobodyWhoPerformsIsBlamed, OnlyGoesOn, OtherLinesAgree, ProgramsObey};
-ghost use Rattle.sc_core_laws.specs.Prelude.{TracesAreLegal, TurnsOutMeansTurns, WrappedAgrees, WrappingAgrees};
+ghost use Rattle.sc_core_laws.specs.Prelude.{PromisingRunAlike, TracesAreLegal, TurnsOutMeansTurns, WrappedAgrees};
+ghost use Rattle.sc_core_laws.specs.Prelude.{WrappingAgrees};
 
 /// The functions of a program denote interaction trees: what is given or blamed, what the blocks of the compartment
 /// decide, and what comes after new blocks, after a turn and after a call. All laws hold of such denotations.
@@ -117,6 +118,12 @@ pub fn turns_out_means_turns()
 /// stack depth, whatever their functions carry and whichever compartments perform.
 pub fn agreeing_run_alike()
     ensures { AgreeingRunAlike }
+{}
+
+/// The same where functions agree only where their calls agree and give the results that they promise.
+#[tactic(auto, using(crate::proofs::Promises::promising_run_alike))]
+pub fn promising_run_alike()
+    ensures { PromisingRunAlike }
 {}
 
 /// A program whose trees stand on other lines has denotations that agree with its own but for the lines of blames.

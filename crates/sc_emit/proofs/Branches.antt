@@ -705,7 +705,7 @@ module _ (frame : FrameTree) (places : List Place) (plan : Plan) where
   layer_shaped (tac.Copy dest from) h =
       plainly_shaped _ (copied_straight frame (place_of frame places dest) (place_of frame places from))
   layer_shaped (tac.Op dest o left right) h =
-      in_role 0 (role_of_operation dest o left right) _
+      in_role 0 (role_of_operation plan.needed dest o left right) _
       (plainly_shaped _ (operation_straight frame places dest o left right))
   layer_shaped (tac.ObjectPlace dest object) h =
       in_role 0 (Places dest object) _ (plainly_shaped _ (object_straight frame places dest object))

@@ -77,20 +77,20 @@ pub use Rattle.sc_emit_select.specs.Prelude.{all_plain, as_one, at_hand, between
 pub use Rattle.sc_emit_select.specs.Prelude.{branch_reach, brought, bytes_ahead, bytes_of, call_cross, call_own, choice}
 pub use Rattle.sc_emit_select.specs.Prelude.{choosing, closing, code_of, completed, copied, cycle, ending_past}
 pub use Rattle.sc_emit_select.specs.Prelude.{ending_test, environment_call, epilogue, first_scratch, followed, fork}
-pub use Rattle.sc_emit_select.specs.Prelude.{frame_taken, function_lines, in_order, in_turn, is_named, is_near}
+pub use Rattle.sc_emit_select.specs.Prelude.{frame_taken, function_lines, held_in, in_order, in_turn, is_named, is_near}
 pub use Rattle.sc_emit_select.specs.Prelude.{is_plain, is_short, joined, joins, jump_back, jump_over, keep, kept}
 pub use Rattle.sc_emit_select.specs.Prelude.{kind_of_fork, linked, load_from, load_word, loading, loop_begins}
 pub use Rattle.sc_emit_select.specs.Prelude.{low_after, lower_part, move, moved_by, need, need_step, needs_of, nothing}
 pub use Rattle.sc_emit_select.specs.Prelude.{object_offset, object_read, object_store, op_code, operand, operation}
-pub use Rattle.sc_emit_select.specs.Prelude.{pass, past, place_needed, place_of, place_of_global, plain, plainly}
-pub use Rattle.sc_emit_select.specs.Prelude.{plan_of, prologue, put, ra, receive, referring, refers_only, register_of}
-pub use Rattle.sc_emit_select.specs.Prelude.{relocation_of, relocations_from, result_register, return, role_first}
-pub use Rattle.sc_emit_select.specs.Prelude.{role_of_load, role_of_operation, role_of_return, role_of_store}
-pub use Rattle.sc_emit_select.specs.Prelude.{role_to_next, rotated, row_needs, second_operand, second_scratch, select}
-pub use Rattle.sc_emit_select.specs.Prelude.{select_all, select_step, short_code, short_form, short_operation}
-pub use Rattle.sc_emit_select.specs.Prelude.{short_return, skipping, slot_offset, sp, store_arguments, store_to}
-pub use Rattle.sc_emit_select.specs.Prelude.{store_word, straight, straightly, take, take_second, taken, testing}
-pub use Rattle.sc_emit_select.specs.Prelude.{unary_code, upper_part, word_of_constant}
+pub use Rattle.sc_emit_select.specs.Prelude.{pass, past, place_of, place_of_global, plain, plainly, plan_of, prologue}
+pub use Rattle.sc_emit_select.specs.Prelude.{put, ra, receive, referring, refers_only, register_of, relocation_of}
+pub use Rattle.sc_emit_select.specs.Prelude.{relocations_from, result_register, return, role_first, role_of_load}
+pub use Rattle.sc_emit_select.specs.Prelude.{role_of_operation, role_of_return, role_of_store, role_to_next, rotated}
+pub use Rattle.sc_emit_select.specs.Prelude.{row_needs, second_operand, second_scratch, select, select_all, select_step}
+pub use Rattle.sc_emit_select.specs.Prelude.{short_code, short_form, short_operation, short_return, skipping}
+pub use Rattle.sc_emit_select.specs.Prelude.{slot_offset, sp, store_arguments, store_to, store_word, straight}
+pub use Rattle.sc_emit_select.specs.Prelude.{straightly, take, take_second, taken, taken_needed, testing, unary_code}
+pub use Rattle.sc_emit_select.specs.Prelude.{upper_part, word_of_constant}
 pub use Rattle.sc_emit_select.specs.declared.operators.ShortForm.{ShortForm}
 pub use Rattle.sc_emit_select.specs.declared.roles.Role.{Role}
 pub use Rattle.sc_emit_select.specs.declared.roles.Role.TheVariants.{Applies, Loads, Operates, Other, Places, Sets}

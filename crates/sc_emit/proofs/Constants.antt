@@ -1,24 +1,26 @@
--- An operator whose second operand is a constant: one instruction, where the result takes the constant's temporary.
+-- An operator whose second operand is a constant: one instruction, where only such operators read the temporary of the
+-- constant.
 use Rattle.sc_emit.proofs.Common.{All, All-cons, All-nil, Arrives, Bool, Calls, Cause, CodeAt, Codes, Computes}
 use Rattle.sc_emit.proofs.Common.{Constant, Err, Follows, FrameTree, Goes, Gone, Instr, IsClear, IsRunning, IsSound}
 use Rattle.sc_emit.proofs.Common.{Joint, List, Lives, Next, Ok, Place, Point, Ready, Result, Running, Setting}
 use Rattle.sc_emit.proofs.Common.{ShortForm, Some, State as Meant, TacOp, TempSet, Temps, Trail, Value, [], all_at}
-use Rattle.sc_emit.proofs.Common.{and_from, and_then, ap, arith, code_step, comes_computed, comes_read, constant_value}
-use Rattle.sc_emit.proofs.Common.{eq-eqb, eqb-true, false, first_scratch, gets, if◌then◌else◌, in_row, is_one, keep}
-use Rattle.sc_emit.proofs.Common.{leave, length, live_across, live_at, live_plain, ne_eqb, not, op_word, operand}
-use Rattle.sc_emit.proofs.Common.{operated, operator_stands, or_left, plain_points, point, read, refl, result_register}
-use Rattle.sc_emit.proofs.Common.{row, same, same_Some, short_code, short_form, short_operation, slice_get, sp, stays}
-use Rattle.sc_emit.proofs.Common.{straightly, subst, sym, take, trail_step, true, true≢false, wanted_less, with_temp}
-use Rattle.sc_emit.proofs.Common.{word_of_constant, wrapping, ℕ, ◌&&◌, ◌*◌, ◌++◌, ◌+◌, ◌==◌, ◌||◌, ◌∙◌, ◌∷◌, ◌≡◌}
+use Rattle.sc_emit.proofs.Common.{and_first, and_from, and_rest, and_then, ap, arith, code_step, comes_computed}
+use Rattle.sc_emit.proofs.Common.{comes_read, constant_value, eq-eqb, false, first_scratch, gets, if◌then◌else◌, in_row}
+use Rattle.sc_emit.proofs.Common.{is_one, keep, leave, length, live_across, live_at, live_plain, ne_eqb, not, op_word}
+use Rattle.sc_emit.proofs.Common.{operand, operated, operator_stands, or_left, plain_points, point, read, refl}
+use Rattle.sc_emit.proofs.Common.{result_register, row, same, same_Some, short_code, short_form, short_operation}
+use Rattle.sc_emit.proofs.Common.{slice_get, sp, stays, straightly, subst, sym, take, trail_step, true, true≢false}
+use Rattle.sc_emit.proofs.Common.{wanted, with_temp, word_of_constant, wrapping, ℕ, ◌&&◌, ◌*◌, ◌++◌, ◌+◌, ◌==◌, ◌||◌}
+use Rattle.sc_emit.proofs.Common.{◌∙◌, ◌∷◌, ◌≡◌, ◌≢◌}
 use Rattle.sc_tac.specs.declared.stmt.TacStmt.TheOpen as tac
 use Rattle.sc_emit_hart.proofs.ShortForms.{gives_short}
 use Rattle.sc_emit.proofs.Operands.{AtHand, Gives, brings, first_is, keeps, world}
-use Rattle.sc_emit.proofs.Pairs.{again, fewer_clear}
+use Rattle.sc_emit.proofs.Pairs.{fewer_clear, unmissed}
 use Rattle.sc_emit.proofs.Plain.{IsResult, IsWordConstant, constant_stands, result_is}
 use Rattle.sc_emit.proofs.Straight.{comes_past, read_goes, straight_follows}
 
 module _ {T : Setting} {R : Running} (valid : IsRunning T R) (calls : Calls)
-    (dest left : ℕ) (value : Constant) (o : TacOp) (apart : (left == dest) ≡ false)
+    (temp dest left : ℕ) (value : Constant) (o : TacOp) (lone : R.plan.needed temp ≡ false)
     (need : R.plan.needed left ≡ true) where
   abbrev frame : FrameTree
   frame = R.activation.frame
@@ -34,49 +36,56 @@ module _ {T : Setting} {R : Running} (valid : IsRunning T R) (calls : Calls)
 
   -- the temporaries where the constant is set
   abbrev pub set : Temps → Temps
-  set temps = with_temp dest start temps
+  set temps = with_temp temp start temps
 
   -- what the operator does after the constant
   abbrev pub applies : Codes
-  applies temps = code_step wrapping R.activation.here calls (tac.Op dest o left (Some dest)) (set temps)
+  applies temps = code_step wrapping R.activation.here calls (tac.Op dest o left (Some temp)) (set temps)
 
   abbrev pub both_steps : Trail
-  both_steps = row (trail_step (tac.Const dest value) ∷ trail_step (tac.Op dest o left (Some dest)) ∷ [])
+  both_steps = row (trail_step (tac.Const temp value) ∷ trail_step (tac.Op dest o left (Some temp)) ∷ [])
 
-  other_way : (dest == left) ≡ false
-  other_way = ne_eqb dest left (λ e. true≢false (sym (eq-eqb left dest (sym e)) ∙ apart))
+  -- what is read in its place is another temporary
+  other : (t : ℕ) → R.plan.needed t ≡ true → t ≢ temp
+  other t h e = true≢false (sym h ∙ ap R.plan.needed e ∙ lone)
 
-  not_dest : (t : ℕ) → (left == t) ≡ true → is_one t (dest ∷ []) ≡ false
-  not_dest t h =
-      let none : is_one left (dest ∷ []) ≡ false = ap (λ b. b || false) other_way in
-      ap (λ u. is_one u (dest ∷ [])) (sym (eqb-true left t h)) ∙ none
+  temps_are : (temps : Temps) (t : ℕ) → R.plan.needed t ≡ true → set temps t ≡ temps t
+  temps_are temps t h = ap (λ b. if b then Some start else temps t) (ne_eqb t temp (other t h))
 
-  -- what the operator reads, and what is live after it, but for the temporary, is live before both
-  live_before : (lives : Lives) (t : ℕ) → live_plain (left ∷ []) (Some dest) lives t ≡ true →
-      live_at both_steps lives t ≡ true
-  live_before lives t h = by (left == t) (is_one t (dest ∷ [])) (lives.following t) (not_dest t) h
+  -- what the operator reads in its place, and what is live after it, is live before both
+  live_before : (lives : Lives) (t : ℕ) →
+      wanted R.plan.needed (live_plain (left ∷ []) (Some dest) lives) t ≡ true →
+      wanted R.plan.needed (live_at both_steps lives) t ≡ true
+  live_before lives t h =
+      let on = and_first (live_plain (left ∷ []) (Some dest) lives t) (R.plan.needed t) h in
+      let wants = and_rest (live_plain (left ∷ []) (Some dest) lives t) (R.plan.needed t) h in
+      and_from (live_at both_steps lives t) (R.plan.needed t)
+      (by (temp == t) (left == t) (is_one t (dest ∷ [])) (lives.following t)
+      (ne_eqb temp t (λ e. other t wants (sym e))) on) wants
     where
-      by : (l a b : Bool) → (l ≡ true → a ≡ false) → ((l || false) || (not a && b)) ≡ true →
-          (false || (not a && ((l || a) || (not a && b)))) ≡ true
-      by true true b none h = cc (none refl)
-      by true false b none h = refl
-      by false true b none h = cc h
-      by false false b none h = h
+      by : (a l d b : Bool) → a ≡ false → ((l || false) || (not d && b)) ≡ true →
+          (false || (not (a || false) && ((l || (a || false)) || (not d && b)))) ≡ true
+      by true l d b none h = cc none
+      by false true d b none h = refl
+      by false false d b none h = h
 
   pub left_live : (lives : Lives) → live_at both_steps lives left ≡ true
   left_live lives =
       let only : is_one left (left ∷ []) ≡ true = rw (eq-eqb left left refl) refl in
-      live_before lives left (or_left (is_one left (left ∷ [])) _ only)
+      let reads : live_plain (left ∷ []) (Some dest) lives left ≡ true = or_left (is_one left (left ∷ [])) _ only in
+      and_first (live_at both_steps lives left) (R.plan.needed left)
+      (live_before lives left
+      (and_from (live_plain (left ∷ []) (Some dest) lives left) (R.plan.needed left) reads need))
 
   live_between : (lives : Lives) (t : ℕ) →
       (is_one t (left ∷ []) || live_across (left ∷ []) false (Some dest) lives t) ≡ true →
-      (is_one t (left ∷ dest ∷ []) || live_across (left ∷ dest ∷ []) false (Some dest) lives t) ≡ true
-  live_between lives t h = by (left == t) (is_one t (dest ∷ [])) (lives.following t) h
+      (is_one t (left ∷ temp ∷ []) || live_across (left ∷ temp ∷ []) false (Some dest) lives t) ≡ true
+  live_between lives t h = by (left == t) (temp == t) (is_one t (dest ∷ [])) (lives.following t) h
     where
-      by : (l a b : Bool) → ((l || false) || (not a && b)) ≡ true → ((l || a) || (not a && b)) ≡ true
-      by true a b h = refl
-      by false true b h = refl
-      by false false b h = h
+      by : (l a d b : Bool) → ((l || false) || (not d && b)) ≡ true → ((l || (a || false)) || (not d && b)) ≡ true
+      by true a d b h = refl
+      by false true d b h = refl
+      by false false d b h = h
 
   clear_after : (lives : Lives) → All (IsClear R.places) (both_steps.points lives) →
       All (IsClear R.places) (plain_points (left ∷ []) false (Some dest) lives)
@@ -86,7 +95,7 @@ module _ {T : Setting} {R : Running} (valid : IsRunning T R) (calls : Calls)
       let last : Point = record { assigned = Some dest; calls = false; live = lives.following } in
       All-cons (IsClear R.places) first (last ∷ [])
       (fewer_clear R.places
-      (λ t. is_one t (left ∷ dest ∷ []) || live_across (left ∷ dest ∷ []) false (Some dest) lives t)
+      (λ t. is_one t (left ∷ temp ∷ []) || live_across (left ∷ temp ∷ []) false (Some dest) lives t)
       (λ t. is_one t (left ∷ []) || live_across (left ∷ []) false (Some dest) lives t) (live_between lives)
       (all_at (IsClear R.places) (both_steps.points lives) 2 _ clear refl))
       (All-cons (IsClear R.places) last [] (all_at (IsClear R.places) (both_steps.points lives) 3 _ clear refl)
@@ -97,9 +106,7 @@ module _ {T : Setting} {R : Running} (valid : IsRunning T R) (calls : Calls)
   fewer_ready lives temps x ready = record {
     settled = ready.settled;
     frame = ready.frame;
-    held = λ t v on known.
-        ready.held t v (wanted_less R.plan.needed (live_plain (left ∷ []) (Some dest) lives) (live_at both_steps lives)
-        (live_before lives) t on) known;
+    held = λ t v on known. ready.held t v (live_before lives t on) known;
     sp = ready.sp;
   }
 
@@ -111,20 +118,25 @@ module _ {T : Setting} {R : Running} (valid : IsRunning T R) (calls : Calls)
   pub applies_goes : (temps : Temps) → Goes (applies temps)
   applies_goes temps =
       read_goes R.activation.here left (set temps)
-      (λ v s. and_then (read R.activation.here dest (set temps) s)
+      (λ v s. and_then (read R.activation.here temp (set temps) s)
       (λ w s. gets R.activation.here dest (operated wrapping (s.memory comp) o v w) (set temps) s))
-      (λ v. read_goes R.activation.here dest (set temps)
+      (λ v. read_goes R.activation.here temp (set temps)
       (λ w s. gets R.activation.here dest (operated wrapping (s.memory comp) o v w) (set temps) s)
       (λ w s. gets_goes (operated wrapping (s.memory comp) o v w) (set temps) s))
 
   -- what the temporaries hold that the operator reads
   pub left_is : (temps : Temps) (v : Value) → set temps left ≡ Some v → temps left ≡ Some v
-  left_is temps v h = sym (ap (λ b. if b then Some start else temps left) apart) ∙ h
+  left_is temps v h = sym (temps_are temps left need) ∙ h
 
-  pub right_is : (temps : Temps) (w : Value) → set temps dest ≡ Some w → start ≡ w
+  pub right_is : (temps : Temps) (w : Value) → set temps temp ≡ Some w → start ≡ w
   right_is temps w h =
-      let now : set temps dest ≡ Some start = rw (eq-eqb dest dest refl) refl in
+      let now : set temps temp ≡ Some start = rw (eq-eqb temp temp refl) refl in
       same_Some start w (sym now ∙ h)
+
+  -- the constant isn't missed where the result was assigned
+  without_constant : (r : Value) (temps : Temps) (t : ℕ) → R.plan.needed t ≡ true →
+      with_temp dest r (set temps) t ≡ with_temp dest r temps t
+  without_constant r temps t h = ap (λ u. if t == dest then Some r else u) (temps_are temps t h)
 
   -- the operator's word, into a register
   abbrev pub short_into : ShortForm → (rd : ℕ) → List Instr
@@ -180,10 +192,10 @@ module _ {T : Setting} {R : Running} (valid : IsRunning T R) (calls : Calls)
         straight_follows T R applies whole both_steps applies_goes
         (λ lives temps x n ready clear at ends e f.
         comes_read T R lives x (length whole + n) ends R.activation.here left (set temps)
-        (λ v s. and_then (read R.activation.here dest (set temps) s)
+        (λ v s. and_then (read R.activation.here temp (set temps) s)
         (λ w s. gets R.activation.here dest (operated wrapping (s.memory comp) o v w) (set temps) s))
         (λ v known.
-        comes_read T R lives x (length whole + n) ends R.activation.here dest (set temps)
+        comes_read T R lives x (length whole + n) ends R.activation.here temp (set temps)
         (λ w s. gets R.activation.here dest (operated wrapping (s.memory comp) o v w) (set temps) s)
         (λ w known'.
         comes_computed T R lives x (length whole + n) ends R.activation.here 0
@@ -194,7 +206,8 @@ module _ {T : Setting} {R : Running} (valid : IsRunning T R) (calls : Calls)
         r ready (left_live lives) (left_is temps v known)
         (ap (operated wrapping (x.meant.memory comp) o v) (right_is temps w known') ∙ gave) in
         comes_past T R lives x whole n (with_temp dest r (set temps)) x.meant
-        (again T R dest start lives.following x (length whole + n) n temps r x.meant (x.pc + 4 * length whole)
+        (unmissed T R lives.following x (length whole + n) n (with_temp dest r temps)
+        (with_temp dest r (set temps)) x.meant (x.pc + 4 * length whole) (without_constant r temps)
         (subst (λ code. Arrives T R lives.following x (length code + n) n (with_temp dest r temps) x.meant
         (x.pc + 4 * length code)) in_parts (keeps T R x valid ready.frame ready.sp lives temps (left ∷ []) dest n
         (fewer_ready lives temps x ready) (clear_after lives clear) r code place its g

@@ -1,12 +1,13 @@
--- Temporaries that are read in their places: what rows of statements need, and a store that joins nothing before it.
+-- Temporaries that are read in their places: what rows of statements need, and what a statement takes that isn't one
+-- with the one before it.
 use Rattle.sc_emit.proofs.Common.{Applies, Bool, FrameTree, List, Loads, Need, None, Operates, Option, Other, Place}
-use Rattle.sc_emit.proofs.Common.{Places, Plan, Role, Sets, Some, TacStmt, TacStmt-F, [], and_first, and_from}
+use Rattle.sc_emit.proofs.Common.{Places, Plan, Role, Sets, Some, TacOp, TacStmt, TacStmt-F, [], and_first, and_from}
 use Rattle.sc_emit.proofs.Common.{and_parts, ap, break_stmt, ending_test, eq-eqb, eqb-true, false, fold-roll-TacStmt}
-use Rattle.sc_emit.proofs.Common.{fork_role, if◌then◌else◌, in_order, is_one, is_some, joins, list_all, map}
-use Rattle.sc_emit.proofs.Common.{map-TacStmt, need, need_step, operation_role, or_left, or_right, place_needed, refl}
-use Rattle.sc_emit.proofs.Common.{role_of_store, role_to_next, roll-TacStmt, row_needs, select, select_step, short_form}
-use Rattle.sc_emit.proofs.Common.{stmt_induction, store_role, subst, sym, test_stmt, true, turning_role, ℕ, ⊎_elim}
-use Rattle.sc_emit.proofs.Common.{◌&&◌, ◌++◌, ◌==◌, ◌||◌, ◌∙◌, ◌∷◌, ◌≡◌, ◌⊎◌}
+use Rattle.sc_emit.proofs.Common.{fork_role, held_in, if◌then◌else◌, in_order, is_one, is_some, joins, list_all, map}
+use Rattle.sc_emit.proofs.Common.{map-TacStmt, need, need_step, one_or_none, operation_role, or_left, or_right, refl}
+use Rattle.sc_emit.proofs.Common.{role_of_operation, role_to_next, roll-TacStmt, row_needs, select, select_step}
+use Rattle.sc_emit.proofs.Common.{short_form, stmt_induction, store_role, subst, sym, taken_needed, test_stmt, true}
+use Rattle.sc_emit.proofs.Common.{turning_role, ℕ, ⊎_elim, ◌&&◌, ◌++◌, ◌==◌, ◌||◌, ◌∙◌, ◌∷◌, ◌≡◌, ◌⊎◌}
 use Rattle.sc_tac.specs.declared.stmt.TacStmt.TheOpen as tac
 use Rattle.sc_emit_select.specs.declared.roles.Role.TheVariants.{Returns, Stores}
 
@@ -39,10 +40,10 @@ all_among (x ∷ xs) ys h =
 -- A HEAD WITH ITS TEST
 -- what the statements before a test read, and the test
 module _ (needed : ℕ → Bool) (cond : ℕ) where
-  test_reads : (before : Option ℕ) → list_all needed (row_needs before (map need (test_stmt cond ∷ []))) ≡ true →
+  test_reads : (before : Role) → list_all needed (row_needs before (map need (test_stmt cond ∷ []))) ≡ true →
       needed cond ≡ true
   test_reads before h =
-      let parts = all_append needed (place_needed before (need (test_stmt cond)).stores)
+      let parts = all_append needed (taken_needed before (need (test_stmt cond)).takes)
       ((need (test_stmt cond)).reads ++
       []) h in
       let reads = (all_append needed (need (test_stmt cond)).reads [] parts.1).0 in
@@ -50,18 +51,18 @@ module _ (needed : ℕ → Bool) (cond : ℕ) where
       and_first (needed cond) _ (subst (λ (n : Need). list_all needed n.reads ≡ true)
       (fold-roll-TacStmt Need need_step layer) reads)
 
-  init_reads : (before : Option ℕ) (init : List TacStmt) →
+  init_reads : (before : Role) (init : List TacStmt) →
       list_all needed (row_needs before (map need (init ++ (test_stmt cond ∷ [])))) ≡ true →
       (list_all needed (row_needs before (map need init)) ≡ true) × (needed cond ≡ true)
   init_reads before [] h = (refl, test_reads before h)
   init_reads before (stmt ∷ init) h =
       let own : List ℕ = (need stmt).reads in
-      let place : List ℕ = place_needed before (need stmt).stores in
-      let one = all_append needed place (own ++ row_needs (need stmt).gives (map need (init ++ (test_stmt cond ∷ []))))
+      let taken : List ℕ = taken_needed before (need stmt).takes in
+      let one = all_append needed taken (own ++ row_needs (need stmt).gives (map need (init ++ (test_stmt cond ∷ []))))
       h in
       let two = all_append needed own (row_needs (need stmt).gives (map need (init ++ (test_stmt cond ∷ [])))) one.1 in
       let rest = init_reads (need stmt).gives init two.1 in (
-        joined place (own ++ row_needs (need stmt).gives (map need init)) one.0
+        joined taken (own ++ row_needs (need stmt).gives (map need init)) one.0
             (joined own (row_needs (need stmt).gives (map need init)) two.0 rest.0),
         rest.1,
       )
@@ -74,21 +75,23 @@ module _ (needed : ℕ → Bool) (cond : ℕ) where
           and_from (needed x) (list_all needed (xs ++ ys)) parts.0 (joined xs ys parts.1 k)
 
   pub head_needs : (head init : List TacStmt) → head ≡ init ++ (test_stmt cond ∷ []) →
-      list_all needed (row_needs None (map need head)) ≡ true →
-      (list_all needed (row_needs None (map need init)) ≡ true) × (needed cond ≡ true)
+      list_all needed (row_needs Other (map need head)) ≡ true →
+      (list_all needed (row_needs Other (map need init)) ≡ true) × (needed cond ≡ true)
   head_needs head init is h =
-      init_reads None init (subst (λ l. list_all needed (row_needs None (map need l)) ≡ true) is h)
+      init_reads Other init (subst (λ l. list_all needed (row_needs Other (map need l)) ≡ true) is h)
 
 -- ROLES
-abbrev pub gives_of : Role → Option ℕ
-gives_of (Places temp object) = Some temp
-gives_of _ = None
+-- what a statement gives that only the next one may take
+abbrev pub gives_of : Role → Role
+gives_of (Places temp object) = Places temp object
+gives_of (Sets temp word) = Sets temp word
+gives_of _ = Other
 
 -- what a statement gives to its neighbour doesn't depend on the one before it
 pub gives_to_next : (before own : Role) → gives_of (role_to_next before own) ≡ gives_of own
-gives_to_next (Sets temp word) (Operates other left o) = by (temp == other && is_some (short_form o word))
+gives_to_next (Sets temp word) (Operates dest left o right) = by (temp == right && is_some (short_form o word))
   where
-    by : (b : Bool) → gives_of (if b then Applies other left o word else Operates other left o) ≡ None
+    by : (b : Bool) → gives_of (if b then Applies dest left o word else Operates dest left o right) ≡ Other
     by true = refl
     by false = refl
 gives_to_next (Sets temp word) (Places other object) = refl
@@ -100,11 +103,25 @@ gives_to_next (Sets temp word) (Returns other) = refl
 gives_to_next (Sets temp word) Other = refl
 gives_to_next (Places temp object) own = refl
 gives_to_next (Loads temp) own = refl
-gives_to_next (Operates temp left o) own = refl
+gives_to_next (Operates dest left o right) own = refl
 gives_to_next (Stores temp value) own = refl
 gives_to_next (Applies temp left o word) own = refl
 gives_to_next (Returns temp) own = refl
 gives_to_next Other own = refl
+
+-- only what is given may be taken
+joins_given : (before takes : Role) (t : ℕ) → held_in takes ≡ Some t →
+    joins (gives_of before) takes ≡ joins before takes
+joins_given (Places temp object) takes t h = refl
+joins_given (Sets temp word) takes t h = refl
+joins_given (Loads temp) takes t h = refl
+joins_given (Operates dest left o right) takes t h = refl
+joins_given (Stores temp value) takes t h = refl
+joins_given (Applies temp left o word) (Stores place value) t h = refl
+joins_given (Applies temp left o word) (Operates dest from same right) t h = refl
+joins_given (Applies temp left o word) takes t h = cc h
+joins_given (Returns temp) takes t h = refl
+joins_given Other takes t h = refl
 
 module _ (frame : FrameTree) (places : List Place) (plan : Plan) where
   abbrev role_of : TacStmt → Role
@@ -116,21 +133,25 @@ module _ (frame : FrameTree) (places : List Place) (plan : Plan) where
   abbrev Gives : TacStmt → Type 0
   Gives stmt = gives_of (role_of stmt) ≡ (need stmt).gives
 
-  nothing_given : (role its : Role) → (role ≡ Other) ⊎ (role ≡ its) → gives_of its ≡ None → gives_of role ≡ None
+  nothing_given : (role its : Role) → (role ≡ Other) ⊎ (role ≡ its) → gives_of its ≡ Other → gives_of role ≡ Other
   nothing_given role its h none = ⊎_elim (λ e. ap gives_of e) (λ e. ap gives_of e ∙ none) h
+
+  nothing_operated : (dest : ℕ) (o : TacOp) (left : ℕ) (right : Option ℕ) →
+      gives_of (role_of_operation plan.needed dest o left right) ≡ Other
+  nothing_operated dest o left right =
+      ⊎_elim (λ e. ap gives_of e) (λ e. ap gives_of e.1) (operation_role frame places plan dest o left right)
 
   layer_gives : (layer : TacStmt-F TacStmt) →
       gives_of (select_step frame places plan (map-TacStmt _ _ (select frame places plan) layer)).role ≡
       (layer_need layer).gives
   layer_gives (tac.Const dest value) = refl
   layer_gives (tac.Copy dest from) = refl
-  layer_gives (tac.Op dest o left right) =
-      nothing_given _ (Operates dest left o) (operation_role frame places plan dest o left right) refl
+  layer_gives (tac.Op dest o left right) = nothing_operated dest o left right
   layer_gives (tac.ObjectPlace dest object) = refl
   layer_gives (tac.GlobalPlace dest global) = refl
   layer_gives (tac.Load dest place pointer) = by (dest == place)
     where
-      by : (b : Bool) → gives_of (if b then Loads dest else Other) ≡ None
+      by : (b : Bool) → gives_of (if b then Loads dest else Other) ≡ Other
       by true = refl
       by false = refl
   layer_gives (tac.Store place value) =
@@ -159,59 +180,43 @@ module _ (frame : FrameTree) (places : List Place) (plan : Plan) where
       ap (λ p. gives_of p.role) (fold-roll-TacStmt _ (select_step frame places plan) layer) ∙ layer_gives layer ∙
       sym (ap (λ (n : Need). n.gives) (fold-roll-TacStmt Need need_step layer)))
 
-  -- a store, by its need
-  record IsStoreAt (stmt : TacStmt) (place : ℕ) : Type 0 where
-    value : ℕ
-    role_is : role_of stmt ≡ role_of_store plan.needed place value
+  -- a statement that takes something, by its need
+  abbrev Takes : TacStmt → Type 0
+  Takes stmt = (t : ℕ) → held_in (need stmt).takes ≡ Some t →
+      role_of stmt ≡ (if plan.needed t then Other else (need stmt).takes)
 
-  layer_stores : (layer : TacStmt-F TacStmt) (place : ℕ) → (layer_need layer).stores ≡ Some place →
-      IsStoreAt (roll-TacStmt layer) place
-  layer_stores (tac.Store at value) place h =
-      let same : at ≡ place = cc h in record {
-        value = value;
-        role_is =
-            ap (λ p. p.role) (fold-roll-TacStmt _ (select_step frame places plan) (tac.Store at value)) ∙
-            ap (λ p. role_of_store plan.needed p value) same;
-      }
-  layer_stores _ place h = cc h
+  layer_takes : (layer : TacStmt-F TacStmt) (t : ℕ) → held_in (layer_need layer).takes ≡ Some t →
+      (select_step frame places plan (map-TacStmt _ _ (select frame places plan) layer)).role ≡
+      (if plan.needed t then Other else (layer_need layer).takes)
+  layer_takes (tac.Store place value) t h =
+      let same : place ≡ t = cc h in ap (λ p. if plan.needed p then Other else Stores place value) same
+  layer_takes (tac.Op dest o left None) t h = cc h
+  layer_takes (tac.Op dest o left (Some right)) t h =
+      let same : right ≡ t = cc h in ap (λ p. if plan.needed p then Other else Operates dest left o right) same
+  layer_takes _ t h = cc h
 
-  stores_at : (stmt : TacStmt) (place : ℕ) → (need stmt).stores ≡ Some place → IsStoreAt stmt place
-  stores_at =
-      stmt_induction (λ stmt. (place : ℕ) → (need stmt).stores ≡ Some place → IsStoreAt stmt place)
-      (λ layer inside place h.
-      layer_stores layer place (sym (ap (λ (n : Need). n.stores) (fold-roll-TacStmt Need need_step layer)) ∙ h))
+  takes_it : (stmt : TacStmt) → Takes stmt
+  takes_it = stmt_induction Takes (λ layer inside t h.
+      let its : need (roll-TacStmt layer) ≡ layer_need layer = fold-roll-TacStmt Need need_step layer in
+      ap (λ p. p.role) (fold-roll-TacStmt _ (select_step frame places plan) layer) ∙
+      layer_takes layer t (sym (ap (λ (n : Need). held_in n.takes) its) ∙ h) ∙
+      ap (λ (n : Need). if plan.needed t then Other else n.takes) (sym its))
 
-  -- the place of a store that isn't one with the statement before it is read
-  read_after : (before : Role) (place value : ℕ) → list_all plan.needed
-      (place_needed (gives_of before) (Some place)) ≡ true
-      →
-      joins before (Stores place value) ≡ false → plan.needed place ≡ true
-  read_after (Places temp object) place value h apart =
-      let all : list_all plan.needed (place ∷ []) ≡ true =
-      sym (ap (λ b. list_all plan.needed (if b then [] else place ∷ [])) apart) ∙ h in and_first
-      (plan.needed place) true all
-  read_after (Loads temp) place value h apart = and_first (plan.needed place) true h
-  read_after (Sets temp word) place value h apart = and_first (plan.needed place) true h
-  read_after (Operates temp left o) place value h apart = and_first (plan.needed place) true h
-  read_after (Stores temp from) place value h apart = and_first (plan.needed place) true h
-  read_after (Applies temp left o word) place value h apart = and_first (plan.needed place) true h
-  read_after (Returns temp) place value h apart = and_first (plan.needed place) true h
-  read_after Other place value h apart = and_first (plan.needed place) true h
-
-  pub store_unjoined : (before : Role) (stmt : TacStmt) →
-      list_all plan.needed (place_needed (gives_of before) (need stmt).stores) ≡ true →
-      joins before (role_of stmt) ≡ false → (place : ℕ) → (need stmt).stores ≡ Some place → plan.needed place ≡ true
-  store_unjoined before stmt h apart place is = by (plan.needed place) refl
+  -- what a statement takes that isn't one with the one before it is read
+  pub taken_unjoined : (before : Role) (stmt : TacStmt) →
+      list_all plan.needed (taken_needed (gives_of before) (need stmt).takes) ≡ true →
+      joins before (role_of stmt) ≡ false → (t : ℕ) → held_in (need stmt).takes ≡ Some t → plan.needed t ≡ true
+  taken_unjoined before stmt h apart t is = by (plan.needed t) refl
     where
-      store : IsStoreAt stmt place
-      store = stores_at stmt place is
+      takes : Role
+      takes = (need stmt).takes
 
-      by : (b : Bool) → plan.needed place ≡ b → b ≡ true
+      by : (b : Bool) → plan.needed t ≡ b → b ≡ true
       by true e = refl
       by false e =
-          let role : role_of stmt ≡ Stores place store.value =
-          store.role_is ∙ ap (λ b. if b then Other else Stores place store.value) e in
-          sym e ∙
-          read_after before place store.value
-          (subst (λ o. list_all plan.needed (place_needed (gives_of before) o) ≡ true) is h)
-          (sym (ap (joins before) role) ∙ apart)
+          let role : role_of stmt ≡ takes = takes_it stmt t is ∙ ap (λ b. if b then Other else takes) e in
+          let alone : joins (gives_of before) takes ≡ false =
+          joins_given before takes t is ∙ sym (ap (joins before) role) ∙ apart in
+          let read : taken_needed (gives_of before) takes ≡ t ∷ [] =
+          ap (λ b. if b then [] else one_or_none (held_in takes)) alone ∙ ap one_or_none is in
+          sym e ∙ and_first (plan.needed t) true (subst (λ xs. list_all plan.needed xs ≡ true) read h)

@@ -4,16 +4,15 @@ use Rattle.sc_emit.proofs.Common.{Ends, Err, Follows, FrameTree, Goes, Gone, Has
 use Rattle.sc_emit.proofs.Common.{IsRunning, IsSound, Joint, List, Lives, Load, Next, None, Ok, Option, Other, Place}
 use Rattle.sc_emit.proofs.Common.{Reached, Ready, Registers, Result, Running, Setting, Settled, Some, StandsFor}
 use Rattle.sc_emit.proofs.Common.{State as Meant, Store, Stores, Sw, TacOp, TempSet, Temps, Value, [], add_word}
-use Rattle.sc_emit.proofs.Common.{and_first, and_from, and_rest, and_then, ap, append-nil, append_assoc, arith}
-use Rattle.sc_emit.proofs.Common.{code_step, comes_computed, comes_read, computed, emits_here, eq-eqb, false}
-use Rattle.sc_emit.proofs.Common.{first_scratch, gets, in_row, inl, is_one, is_some, keep, leave, length, list_all}
-use Rattle.sc_emit.proofs.Common.{live_plain, load, load_from, loads, look, looked, may_store, one_or_none, op_code}
-use Rattle.sc_emit.proofs.Common.{op_word, operand, operated, operation, operator_stands, or_left, or_right}
-use Rattle.sc_emit.proofs.Common.{plain_points, pos, prefix_same, read, refl, result_register, role_of_load}
-use Rattle.sc_emit.proofs.Common.{role_of_operation, role_of_store, same, second_operand, second_scratch, seen_from}
-use Rattle.sc_emit.proofs.Common.{select_step, slice_get, sp, stays, store, store_to, stored, stores, straightly, subst}
-use Rattle.sc_emit.proofs.Common.{sym, take, takes_two, trail_step, true, with_memory, with_temp, word, word_of}
-use Rattle.sc_emit.proofs.Common.{wrapping, ℕ, ⊎_elim, ◌&&◌, ◌*◌, ◌++◌, ◌+◌, ◌==◌, ◌∙◌, ◌∷◌, ◌≡◌}
+use Rattle.sc_emit.proofs.Common.{and_from, and_then, ap, append-nil, append_assoc, arith, code_step, comes_computed}
+use Rattle.sc_emit.proofs.Common.{comes_read, computed, emits_here, eq-eqb, false, first_scratch, gets, in_row, inl}
+use Rattle.sc_emit.proofs.Common.{is_one, is_some, keep, leave, length, live_plain, load, load_from, loads, look}
+use Rattle.sc_emit.proofs.Common.{looked, may_store, one_or_none, op_code, op_word, operand, operated, operation}
+use Rattle.sc_emit.proofs.Common.{operator_stands, or_left, or_right, plain_points, pos, prefix_same, read, refl}
+use Rattle.sc_emit.proofs.Common.{result_register, role_of_load, role_of_operation, role_of_store, same, second_operand}
+use Rattle.sc_emit.proofs.Common.{second_scratch, seen_from, select_step, slice_get, sp, stays, store, store_to, stored}
+use Rattle.sc_emit.proofs.Common.{stores, straightly, subst, sym, take, takes_two, trail_step, true, with_memory}
+use Rattle.sc_emit.proofs.Common.{with_temp, word, word_of, wrapping, ℕ, ⊎_elim, ◌*◌, ◌++◌, ◌+◌, ◌==◌, ◌∙◌, ◌∷◌, ◌≡◌}
 use Rattle.rv_code.specs.declared.instr.LoadOp.TheVariants.{Lw}
 use Rattle.sc_emit_hart.proofs.Rows.{stores as stores_to, loads as loads_from}
 use Rattle.sc_tac.specs.declared.stmt.TacStmt.TheOpen as tac
@@ -414,18 +413,17 @@ module _ {T : Setting} {R : Running} (valid : IsRunning T R) (calls : Calls)
 
       -- with as many operands as it takes
       pub op_follows : (right : Option ℕ) → is_some right ≡ takes_two o → IsSound o →
-          list_all R.plan.needed (left_one ∷ one_or_none right) ≡ true →
+          R.plan.needed left_one ≡ true → ((t : ℕ) → right ≡ Some t → R.plan.needed t ≡ true) →
           Follows T R (code_step wrapping R.activation.here calls (tac.Op dest o left_one right))
           (select_step frame R.places R.plan (tac.Op dest o left_one right)) (trail_step (tac.Op dest o left_one
           right))
-      op_follows None count for needs =
+      op_follows None count for need takes =
           with_role T R (code_step wrapping R.activation.here calls (tac.Op dest o left_one None))
           (straightly frame R.places (Whole None)) Other (trail_step (tac.Op dest o left_one None))
-          (one_operand (sym count) for (and_first (R.plan.needed left_one) true needs))
-      op_follows (Some right_one) count for needs =
+          (one_operand (sym count) for need)
+      op_follows (Some right_one) count for need takes =
           with_role T R (code_step wrapping R.activation.here calls (tac.Op dest o left_one (Some right_one)))
-          (straightly frame R.places (Whole (Some right_one))) (role_of_operation dest o left_one (Some right_one))
-          (trail_step (tac.Op dest o left_one (Some right_one))) (two_operands right_one for
-          (and_first (R.plan.needed left_one) (R.plan.needed right_one && true) needs)
-          (and_first (R.plan.needed right_one) true (and_rest (R.plan.needed left_one)
-          (R.plan.needed right_one && true) needs)))
+          (straightly frame R.places (Whole (Some right_one)))
+          (role_of_operation R.plan.needed dest o left_one (Some right_one))
+          (trail_step (tac.Op dest o left_one (Some right_one))) (two_operands right_one for need
+          (takes right_one refl))

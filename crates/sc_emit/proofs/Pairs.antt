@@ -1,7 +1,7 @@
--- Two statements that are one piece of code: the second assigns the temporary that the first assigned.
-use Rattle.sc_emit.proofs.Common.{Arrives, Bool, IsClear, Joint, List, Place, Running, TempSet, Setting, Some}
-use Rattle.sc_emit.proofs.Common.{State as Meant, Temps, Value, false, if◌then◌else◌, point, refl, sym, true, with_temp}
-use Rattle.sc_emit.proofs.Common.{ℕ, ◌==◌, ◌∙◌, ◌≡◌}
+-- Two statements that are one piece of code: what the first assigned is lost, or nobody reads it in its place.
+use Rattle.sc_emit.proofs.Common.{Arrives, Bool, IsClear, Joint, List, Place, Running, Setting, Some, State as Meant}
+use Rattle.sc_emit.proofs.Common.{TempSet, Temps, Value, and_rest, false, if◌then◌else◌, point, refl, sym, true}
+use Rattle.sc_emit.proofs.Common.{with_temp, ℕ, ◌==◌, ◌∙◌, ◌≡◌}
 
 -- where less is live and nothing is assigned, a point is as clear
 pub fewer_clear : (places : List Place) (more fewer : TempSet) → ((t : ℕ) → fewer t ≡ true → more t ≡ true) →
@@ -10,6 +10,23 @@ fewer_clear places more fewer h clear = record {
   assigned = λ d t e. cc e;
   live = λ t u on on' shared. clear.live t u (h t on) (h u on') shared;
   over_calls = λ t calls. cc calls;
+}
+
+-- what isn't read in its place isn't missed there
+pub unmissed : (T : Setting) (R : Running) (live : TempSet) (x : Joint) (budget left : ℕ) (temps other : Temps)
+    (s : Meant) (pc : ℕ) → ((t : ℕ) → R.plan.needed t ≡ true → other t ≡ temps t) →
+    Arrives T R live x budget left temps s pc → Arrives T R live x budget left other s pc
+unmissed T R live x budget left temps other s pc same g = record {
+  y = g.y;
+  meant_is = g.meant_is;
+  pc_is = g.pc_is;
+  leads = g.leads;
+  ready = record {
+    settled = g.ready.settled;
+    frame = g.ready.frame;
+    held = λ t w on known. g.ready.held t w on (sym (same t (and_rest (live t) (R.plan.needed t) on)) ∙ known);
+    sp = g.ready.sp;
+  };
 }
 
 -- what the first assigned is lost

@@ -6,7 +6,7 @@ use Rattle.sc_emit.proofs.Common.{TacOp, Temps, Trail, Value, [], a0, and_then, 
 use Rattle.sc_emit.proofs.Common.{comes_read, computed, constant_value, ends_of, eq-eqb, false, follow as then_follow}
 use Rattle.sc_emit.proofs.Common.{follow_goes, gets, inl, is_one, leave, length, live_at, operated, read, refl, row}
 use Rattle.sc_emit.proofs.Common.{same_Some, short_form, short_return, straightly, subst, sym, then_then, trail_step}
-use Rattle.sc_emit.proofs.Common.{true, with_temp, word_of_constant, wrapping, ℕ, ◌+◌, ◌==◌, ◌∙◌, ◌∷◌, ◌≡◌}
+use Rattle.sc_emit.proofs.Common.{true, with_temp, word_of_constant, wrapping, ℕ, ◌+◌, ◌∙◌, ◌∷◌, ◌≡◌}
 use Rattle.sc_core.specs.Prelude.{in_order as one_by_one, take as taken_by}
 use Rattle.sc_emit_select.specs.Prelude.{Piece as Code}
 use Rattle.sc_core_laws.proofs.Order.{follow_assoc}
@@ -39,7 +39,7 @@ follows_same T R one other same code trail F = record {
 }
 
 module _ {T : Setting} {R : Running} (valid : IsRunning T R) (calls : Calls)
-    (dest left : ℕ) (value : Constant) (o : TacOp) (apart : (left == dest) ≡ false)
+    (temp dest left : ℕ) (value : Constant) (o : TacOp) (lone : R.plan.needed temp ≡ false)
     (need : R.plan.needed left ≡ true) where
   abbrev frame : FrameTree
   frame = R.activation.frame
@@ -49,11 +49,11 @@ module _ {T : Setting} {R : Running} (valid : IsRunning T R) (calls : Calls)
 
   -- what the operator does after the constant
   abbrev operates : Codes
-  operates = applies valid calls dest left value o apart need
+  operates = applies valid calls temp dest left value o lone need
 
   -- the temporaries where the constant is set
   abbrev set_temps : Temps → Temps
-  set_temps = set valid calls dest left value o apart need
+  set_temps = set valid calls temp dest left value o lone need
 
   -- what the return does
   abbrev returns : Codes
@@ -64,20 +64,20 @@ module _ {T : Setting} {R : Running} (valid : IsRunning T R) (calls : Calls)
   gives_back temps s = then_follow one_by_one (operates temps s) returns
 
   abbrev pub all_three : Trail
-  all_three = row (trail_step (tac.Const dest value) ∷ trail_step (tac.Op dest o left (Some dest)) ∷
+  all_three = row (trail_step (tac.Const temp value) ∷ trail_step (tac.Op dest o left (Some temp)) ∷
       trail_step (tac.Return (Some dest)) ∷ [])
 
   gives_back_goes : (temps : Temps) → Goes (gives_back temps)
   gives_back_goes temps s =
       follow_goes one_by_one s (operates temps s) returns
-      (applies_goes valid calls dest left value o apart need temps s) (return_goes valid calls (Some dest))
+      (applies_goes valid calls temp dest left value o lone need temps s) (return_goes valid calls (Some dest))
 
   -- what the operator does with its operands
   abbrev result_known : Temps → Value → Value → Meant → Piece (Left Temps)
   result_known temps v w s = gets here dest (operated wrapping (s.memory here.comp) o v w) (set_temps temps) s
 
   abbrev right_read : Temps → Value → Meant → Piece (Left Temps)
-  right_read temps v s = and_then (read here dest (set_temps temps) s) (result_known temps v)
+  right_read temps v s = and_then (read here temp (set_temps temps) s) (result_known temps v)
 
   -- what is done after it
   abbrev goes_on : Codes → Left Temps → Meant → Piece (Left Temps)
@@ -95,9 +95,9 @@ module _ {T : Setting} {R : Running} (valid : IsRunning T R) (calls : Calls)
       (comes_read T R lives x budget ends here left (set_temps temps)
       (λ v s. and_then (right_read temps v s) (goes_on more))
       (λ v known.
-      let second : Piece Value = read here dest (set_temps temps) x.meant in
+      let second : Piece Value = read here temp (set_temps temps) x.meant in
       subst (Comes T R lives x budget ends) (sym (then_then second (result_known temps v) (goes_on more)))
-      (comes_read T R lives x budget ends here dest (set_temps temps)
+      (comes_read T R lives x budget ends here temp (set_temps temps)
       (λ w s. and_then (result_known temps v w s) (goes_on more))
       (λ w known'.
       let result : Result Value Cause = operated wrapping (x.meant.memory here.comp) o v w in
@@ -105,15 +105,15 @@ module _ {T : Setting} {R : Running} (valid : IsRunning T R) (calls : Calls)
       (sym (then_then (computed here 0 result x.meant) (λ r s. leave Next (with_temp dest r (set_temps temps)) s)
       (goes_on more)))
       (comes_computed T R lives x budget ends here 0 result (λ r s. more (with_temp dest r (set_temps temps)) s)
-      (λ r gave. h v r (left_is valid calls dest left value o apart need temps v known)
+      (λ r gave. h v r (left_is valid calls temp dest left value o lone need temps v known)
       (ap (operated wrapping (x.meant.memory here.comp) o v)
-      (right_is valid calls dest left value o apart need temps w known') ∙ gave)))))))
+      (right_is valid calls temp dest left value o lone need temps w known') ∙ gave)))))))
 
   module _ (form : ShortForm) (form_is : short_form o (word_of_constant value) ≡ Some form) (for : IsSound o)
       (small : IsWordConstant valid calls value) where
     -- the result in a0
     abbrev code : List Instr
-    code = short_into valid calls dest left value o apart need form a0
+    code = short_into valid calls temp dest left value o lone need form a0
 
     abbrev whole : List Instr
     whole = short_return frame R.places left (Some form)
@@ -124,9 +124,10 @@ module _ {T : Setting} {R : Running} (valid : IsRunning T R) (calls : Calls)
         Puts valid (live_at all_three lives) temps x ready code (Some r)
     puts lives temps x v r ready known gave =
         let on : live_at all_three lives left ≡ true =
-        left_live valid calls dest left value o apart need (record lives { following = λ t. is_one t (dest ∷ []) }) in
+        left_live valid calls temp dest left value o lone need
+        (record lives { following = λ t. is_one t (dest ∷ []) }) in
         let g : Gives T R x code a0 r =
-        gives valid calls dest left value o apart need form form_is for small a0 a0_is
+        gives valid calls temp dest left value o lone need form form_is for small a0 a0_is
         (live_at all_three lives) temps x v r ready on known gave in
         record {
           after = g.after;
@@ -161,18 +162,18 @@ module _ {T : Setting} {R : Running} (valid : IsRunning T R) (calls : Calls)
   -- the three in a row, before more
   abbrev pub in_three : Codes → Codes
   in_three more temps s =
-      then_follow one_by_one (code_step wrapping here calls (tac.Const dest value) temps s)
-      (λ temps s. then_follow one_by_one (code_step wrapping here calls (tac.Op dest o left (Some dest)) temps s)
+      then_follow one_by_one (code_step wrapping here calls (tac.Const temp value) temps s)
+      (λ temps s. then_follow one_by_one (code_step wrapping here calls (tac.Op dest o left (Some temp)) temps s)
       (λ temps s. then_follow one_by_one (returns temps s) more))
 
   -- code that follows the three as one, before more, follows them in a row
   pub three_as_one : (more : Codes) (trails : List Trail) (code : Code) →
       Follows T R (λ temps s. then_follow one_by_one (gives_back temps s) more) code (row (all_three ∷ trails)) →
       Follows T R (in_three more) code
-      (row (trail_step (tac.Const dest value) ∷ trail_step (tac.Op dest o left (Some dest)) ∷
+      (row (trail_step (tac.Const temp value) ∷ trail_step (tac.Op dest o left (Some temp)) ∷
       trail_step (tac.Return (Some dest)) ∷ trails))
   three_as_one more trails code F =
       follows_same T R (λ temps s. then_follow one_by_one (gives_back temps s) more) (in_three more)
       (λ temps s. follow_assoc (operates temps s) returns more) code
-      (row (trail_step (tac.Const dest value) ∷ trail_step (tac.Op dest o left (Some dest)) ∷
+      (row (trail_step (tac.Const temp value) ∷ trail_step (tac.Op dest o left (Some temp)) ∷
       trail_step (tac.Return (Some dest)) ∷ trails)) F

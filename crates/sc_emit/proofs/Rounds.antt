@@ -148,14 +148,14 @@ module _ (frame : FrameTree) (places : List Place) (plan : Plan) where
           IsCodeOf stmt (as_one frame places before (select frame places plan stmt).role)
       short pair =
           let form : Option ShortForm = short_form pair.op pair.word in
-          let operation = operates_it frame places plan stmt pair.temp pair.left pair.op pair.operates in
+          let operation = operates_it frame places plan stmt pair.dest pair.left pair.op pair.temp pair.operates in
           subst (λ r. IsCodeOf stmt (as_one frame places r (select frame places plan stmt).role)) (sym pair.sets)
           (subst (λ r. IsCodeOf stmt (as_one frame places (Sets pair.temp pair.word) r)) (sym pair.operates)
-          (subst (λ s. IsCodeOf s (straightly frame places (short_operation frame places pair.temp pair.left form)))
+          (subst (λ s. IsCodeOf s (straightly frame places (short_operation frame places pair.dest pair.left form)))
           (sym operation.is)
-          (by_instrs (tac.Op pair.temp pair.op pair.left (Some pair.temp))
-          (short_operation frame places pair.temp pair.left form) refl
-          (short_straight frame places pair.temp pair.left form))))
+          (by_instrs (tac.Op pair.dest pair.op pair.left (Some pair.temp))
+          (short_operation frame places pair.dest pair.left form) refl
+          (short_straight frame places pair.dest pair.left form))))
 
       back : IsReturned before (select frame places plan stmt).role →
           IsCodeOf stmt (as_one frame places before (select frame places plan stmt).role)
@@ -453,7 +453,7 @@ module _ (frame : FrameTree) (places : List Place) (plan : Plan) where
       by_instrs (tac.Copy dest from) _ refl
       (copied_straight frame (place_of frame places dest) (place_of frame places from))
   layer_lies (tac.Op dest o left right) h =
-      in_role (roll-TacStmt (tac.Op dest o left right)) (role_of_operation dest o left right) _
+      in_role (roll-TacStmt (tac.Op dest o left right)) (role_of_operation plan.needed dest o left right) _
       (by_instrs (tac.Op dest o left right) _ refl (operation_straight frame places dest o left right))
   layer_lies (tac.ObjectPlace dest object) h =
       in_role (roll-TacStmt (tac.ObjectPlace dest object)) (Places dest object) _

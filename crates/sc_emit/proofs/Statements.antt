@@ -7,21 +7,21 @@ use Rattle.sc_emit.proofs.Common.{Stopped, TacOp, TacStmt, TacStmt-F, Trail, Val
 use Rattle.sc_emit.proofs.Common.{ap, ap₂, arith, as_one, between, branch_reach, break_follows, calls_only, code_does}
 use Rattle.sc_emit.proofs.Common.{code_step, continue_follows, counts_elements, each_before, eq-eqb, everywhere, false}
 use Rattle.sc_emit.proofs.Common.{fold-roll-TacStmt, follow as then_follow, followed, gives_place, has_elements}
-use Rattle.sc_emit.proofs.Common.{has_heap, has_operands, has_words, if◌then◌else◌, in_order, in_turn, is_call, is_some}
-use Rattle.sc_emit.proofs.Common.{joined, joins, leb-true, length, list_all, loads_it, ltb-true, map, map-TacStmt}
-use Rattle.sc_emit.proofs.Common.{names_only, names_own_object, names_own_temps, nat_lt, need, need_step, needs_of}
-use Rattle.sc_emit.proofs.Common.{never_applies, none_after, not, nothing as no_lines, object_inside, object_read}
-use Rattle.sc_emit.proofs.Common.{object_store, object_there, one_or_none, operates_it, parts_least, passes_few}
-use Rattle.sc_emit.proofs.Common.{place_needed, read_is_last, refl, return_is_last, return_of, returns_it, role_first}
+use Rattle.sc_emit.proofs.Common.{has_heap, has_operands, has_words, held_in, if◌then◌else◌, in_order, in_turn, is_call}
+use Rattle.sc_emit.proofs.Common.{is_some, joined, joins, leb-true, length, list_all, loads_it, ltb-true, map}
+use Rattle.sc_emit.proofs.Common.{map-TacStmt, names_only, names_own_object, names_own_temps, nat_lt, need, need_step}
+use Rattle.sc_emit.proofs.Common.{needs_of, never_applies, none_after, not, nothing as no_lines, object_inside}
+use Rattle.sc_emit.proofs.Common.{object_read, object_store, object_there, one_or_none, operates_it, parts_least}
+use Rattle.sc_emit.proofs.Common.{passes_few, read_is_last, refl, return_is_last, return_of, returns_it, role_first}
 use Rattle.sc_emit.proofs.Common.{role_to_next, role_unjoined, roll-TacStmt, rotated_follows, row, row_needs, select}
 use Rattle.sc_emit.proofs.Common.{select_all, select_step, sets_it, short_form, short_operation, short_return}
 use Rattle.sc_emit.proofs.Common.{slice_get-get_or, stmt_does, stmt_induction, store_is_last, stores_it, straightly}
-use Rattle.sc_emit.proofs.Common.{subst, sym, takes_two, test_stmt, third_is_last, trail, trail_step, true, turning_by}
-use Rattle.sc_emit.proofs.Common.{which_pair, word_of_constant, wrapping, ℕ, ⊎_elim, ◌&&◌, ◌++◌, ◌+◌, ◌<◌, ◌==◌, ◌^◌}
-use Rattle.sc_emit.proofs.Common.{◌||◌, ◌∙◌, ◌∷◌, ◌≡◌, ◌≤◌}
+use Rattle.sc_emit.proofs.Common.{subst, sym, taken_needed, takes_two, test_stmt, third_is_last, trail, trail_step}
+use Rattle.sc_emit.proofs.Common.{true, turning_by, which_pair, word_of_constant, wrapping, ℕ, ⊎_elim, ◌++◌, ◌+◌, ◌<◌}
+use Rattle.sc_emit.proofs.Common.{◌^◌, ◌||◌, ◌∙◌, ◌∷◌, ◌≡◌, ◌≤◌}
 use Rattle.sc_core.specs.Prelude.{in_order as one_by_one}
 use Rattle.sc_emit_select.specs.Prelude.{Piece as Code}
-use Rattle.sc_emit.proofs.Needed.{all_append, gives_to_next, gives_of, head_needs, need_gives, store_unjoined}
+use Rattle.sc_emit.proofs.Needed.{all_append, gives_to_next, gives_of, head_needs, need_gives, taken_unjoined}
 use Rattle.sc_emit.proofs.Stored.{assigns, assigns_follow, both_parts}
 use Rattle.sc_emit.proofs.Constants.{applies, both_steps, short_follows}
 use Rattle.std.specs.Bool.{beq}
@@ -78,12 +78,12 @@ module _ {T : Setting} {R : Running} (valid : IsRunning T R) (calls : Calls) (fo
   abbrev AllNeeded : List ℕ → Type 0
   AllNeeded temps = list_all R.plan.needed temps ≡ true
 
-  abbrev StoresNeeded : Need → Type 0
-  StoresNeeded need = (place : ℕ) → need.stores ≡ Some place → R.plan.needed place ≡ true
+  abbrev TakesNeeded : Need → Type 0
+  TakesNeeded need = (t : ℕ) → held_in need.takes ≡ Some t → R.plan.needed t ≡ true
 
   abbrev Followed : TacStmt → Type 0
   Followed stmt =
-      PassesAll tests stmt → AllNeeded (need stmt).reads → StoresNeeded (need stmt) → (code stmt).size ≤ limit →
+      PassesAll tests stmt → AllNeeded (need stmt).reads → TakesNeeded (need stmt) → (code stmt).size ≤ limit →
       Follows T R (does stmt) (code stmt) (trail stmt)
 
   -- the place of a temporary that a statement names first
@@ -188,49 +188,49 @@ module _ {T : Setting} {R : Running} (valid : IsRunning T R) (calls : Calls) (fo
   is_sound (tacop.PointerCompare o) h = tt
 
   -- the operator of a temporary and a constant
-  short_follows_here : (dest left : ℕ) (value : Constant) (o : TacOp) (form : ShortForm) →
-      (apart : (left == dest) ≡ false) (read : R.plan.needed left ≡ true) →
+  short_follows_here : (temp dest left : ℕ) (value : Constant) (o : TacOp) (form : ShortForm) →
+      (lone : R.plan.needed temp ≡ false) (read : R.plan.needed left ≡ true) →
       short_form o (word_of_constant value) ≡ Some form
       →
-      PassesAll tests (roll-TacStmt (tac.Const dest value)) →
-      PassesAll tests (roll-TacStmt (tac.Op dest o left (Some dest))) →
-      Follows T R (applies valid calls dest left value o apart read)
+      PassesAll tests (roll-TacStmt (tac.Const temp value)) →
+      PassesAll tests (roll-TacStmt (tac.Op dest o left (Some temp))) →
+      Follows T R (applies valid calls temp dest left value o lone read)
       (straightly frame R.places (short_operation frame R.places dest left (short_form o (word_of_constant value))))
-      (both_steps valid calls dest left value o apart read)
-  short_follows_here dest left value o form apart read form_is pass pass' =
-      let h = passes_here tests (tac.Const dest value) pass in
-      let k = passes_here tests (tac.Op dest o left (Some dest)) pass' in
-      let place = place_there dest [] h.0 in
-      subst (λ form. Follows T R (applies valid calls dest left value o apart read)
+      (both_steps valid calls temp dest left value o lone read)
+  short_follows_here temp dest left value o form lone read form_is pass pass' =
+      let h = passes_here tests (tac.Const temp value) pass in
+      let k = passes_here tests (tac.Op dest o left (Some temp)) pass' in
+      let place = place_there dest (left ∷ temp ∷ []) k.0 in
+      subst (λ form. Follows T R (applies valid calls temp dest left value o lone read)
       (straightly frame R.places (short_operation frame R.places dest left form))
-      (both_steps valid calls dest left value o apart read)) (sym form_is)
-      (short_follows valid calls dest left value o apart read form form_is
-      (is_sound o k.1.1.1.1.1.0) (is_word dest value h.1.1.1.1.0) place.0 place.1)
+      (both_steps valid calls temp dest left value o lone read)) (sym form_is)
+      (short_follows valid calls temp dest left value o lone read form form_is
+      (is_sound o k.1.1.1.1.1.0) (is_word temp value h.1.1.1.1.0) place.0 place.1)
 
   -- the same, returned
-  back_follows_here : (dest left : ℕ) (value : Constant) (o : TacOp) (form : ShortForm) →
-      (apart : (left == dest) ≡ false) (read : R.plan.needed left ≡ true) →
+  back_follows_here : (temp dest left : ℕ) (value : Constant) (o : TacOp) (form : ShortForm) →
+      (lone : R.plan.needed temp ≡ false) (read : R.plan.needed left ≡ true) →
       short_form o (word_of_constant value) ≡ Some form →
-      PassesAll tests (roll-TacStmt (tac.Const dest value)) →
-      PassesAll tests (roll-TacStmt (tac.Op dest o left (Some dest))) →
-      Follows T R (gives_back valid calls dest left value o apart read)
+      PassesAll tests (roll-TacStmt (tac.Const temp value)) →
+      PassesAll tests (roll-TacStmt (tac.Op dest o left (Some temp))) →
+      Follows T R (gives_back valid calls temp dest left value o lone read)
       (straightly frame R.places (short_return frame R.places left (short_form o (word_of_constant value))))
-      (all_three valid calls dest left value o apart read)
-  back_follows_here dest left value o form apart read form_is pass pass' =
-      let h = passes_here tests (tac.Const dest value) pass in
-      let k = passes_here tests (tac.Op dest o left (Some dest)) pass' in
-      subst (λ form. Follows T R (gives_back valid calls dest left value o apart read)
+      (all_three valid calls temp dest left value o lone read)
+  back_follows_here temp dest left value o form lone read form_is pass pass' =
+      let h = passes_here tests (tac.Const temp value) pass in
+      let k = passes_here tests (tac.Op dest o left (Some temp)) pass' in
+      subst (λ form. Follows T R (gives_back valid calls temp dest left value o lone read)
       (straightly frame R.places (short_return frame R.places left form))
-      (all_three valid calls dest left value o apart read)) (sym form_is)
-      (gives_back_follows valid calls dest left value o apart read form form_is
-      (is_sound o k.1.1.1.1.1.0) (is_word dest value h.1.1.1.1.0))
+      (all_three valid calls temp dest left value o lone read)) (sym form_is)
+      (gives_back_follows valid calls temp dest left value o lone read form form_is
+      (is_sound o k.1.1.1.1.1.0) (is_word temp value h.1.1.1.1.0))
 
   -- the first operand of an operator is read in its place
-  left_wanted : (stmt : TacStmt) (temp left : ℕ) (o : TacOp) → stmt ≡ roll-TacStmt (tac.Op temp o left (Some temp)) →
-      AllNeeded (need stmt).reads → R.plan.needed left ≡ true
-  left_wanted stmt temp left o is h =
-      let reads_left : AllNeeded (left ∷ temp ∷ []) = reads_of stmt (tac.Op temp o left (Some temp)) is h in
-      and_first (R.plan.needed left) (R.plan.needed temp && true) reads_left
+  left_wanted : (stmt : TacStmt) (dest left : ℕ) (o : TacOp) (right : ℕ) →
+      stmt ≡ roll-TacStmt (tac.Op dest o left (Some right)) → AllNeeded (need stmt).reads → R.plan.needed left ≡ true
+  left_wanted stmt dest left o right is h =
+      let reads_left : AllNeeded (left ∷ []) = reads_of stmt (tac.Op dest o left (Some right)) is h in
+      and_first (R.plan.needed left) true reads_left
 
   by_test : {C : Type 0} (found : Bool) → (found ≡ false → C) → (found ≡ true → C) → C
   by_test true off on = on refl
@@ -405,20 +405,21 @@ module _ {T : Setting} {R : Running} (valid : IsRunning T R) (calls : Calls) (fo
       short : IsShort (code stmt).role (code next).role → Row before (stmt ∷ next ∷ rest)
       short pair =
           let first = sets_it frame R.places R.plan stmt pair.temp pair.word pair.sets in
-          let second = operates_it frame R.places R.plan next pair.temp pair.left pair.op pair.operates in
+          let second = operates_it frame R.places R.plan next pair.dest pair.left pair.op pair.temp pair.operates in
           let word_is : pair.word ≡ word_of_constant first.value = sym first.word_is in
-          let wants = left_wanted next pair.temp pair.left pair.op second.is reads_next in
+          let wants = left_wanted next pair.dest pair.left pair.op pair.temp second.is reads_next in
           two_follow before stmt next rest (tac.Const pair.temp first.value)
-          (tac.Op pair.temp pair.op pair.left (Some pair.temp))
+          (tac.Op pair.dest pair.op pair.left (Some pair.temp))
           (straightly frame R.places
-          (short_operation frame R.places pair.temp pair.left (short_form pair.op (word_of_constant first.value))))
-          (applies valid calls pair.temp pair.left first.value pair.op second.apart wants)
-          (both_steps valid calls pair.temp pair.left first.value pair.op second.apart wants) first.is second.is c1
+          (short_operation frame R.places pair.dest pair.left (short_form pair.op (word_of_constant first.value))))
+          (applies valid calls pair.temp pair.dest pair.left first.value pair.op second.lone wants)
+          (both_steps valid calls pair.temp pair.dest pair.left first.value pair.op second.lone wants) first.is
+          second.is c1
           (c2 ∙ ap₂ (as_one frame R.places) pair.sets pair.operates ∙
-          ap (λ w. straightly frame R.places (short_operation frame R.places pair.temp pair.left (short_form pair.op
+          ap (λ w. straightly frame R.places (short_operation frame R.places pair.dest pair.left (short_form pair.op
           w)))
           word_is)
-          (short_follows_here pair.temp pair.left first.value pair.op pair.form second.apart wants
+          (short_follows_here pair.temp pair.dest pair.left first.value pair.op pair.form second.lone wants
           (ap (short_form pair.op) first.word_is ∙ pair.form_is) (subst (PassesAll tests) first.is pass)
           (subst (PassesAll tests) second.is pass')) (λ c F. F) following
 
@@ -451,20 +452,20 @@ module _ {T : Setting} {R : Running} (valid : IsRunning T R) (calls : Calls) (fo
       back pair = never (return_is_last (code stmt).role (code next).role (code last).role pair)
 
       short : IsShort (code stmt).role (code next).role → Row before (stmt ∷ next ∷ last ∷ rest)
-      short pair = given pair (return_of (code last).role pair.temp pair.left pair.op pair.word
+      short pair = given pair (return_of (code last).role pair.dest pair.left pair.op pair.word
           (sym (ap (λ r. joins r (code last).role) pair.following) ∙ third))
         where
-          given : (pair : IsShort (code stmt).role (code next).role) → (code last).role ≡ Returns pair.temp →
+          given : (pair : IsShort (code stmt).role (code next).role) → (code last).role ≡ Returns pair.dest →
               Row before (stmt ∷ next ∷ last ∷ rest)
           given pair gives =
               let first = sets_it frame R.places R.plan stmt pair.temp pair.word pair.sets in
-              let second = operates_it frame R.places R.plan next pair.temp pair.left pair.op pair.operates in
-              let third_is : last ≡ roll-TacStmt (tac.Return (Some pair.temp)) =
-              returns_it frame R.places R.plan last pair.temp gives in
+              let second = operates_it frame R.places R.plan next pair.dest pair.left pair.op pair.temp pair.operates in
+              let third_is : last ≡ roll-TacStmt (tac.Return (Some pair.dest)) =
+              returns_it frame R.places R.plan last pair.dest gives in
               let word_is : pair.word ≡ word_of_constant first.value = sym first.word_is in
-              let wants = left_wanted next pair.temp pair.left pair.op second.is reads_next in
+              let wants = left_wanted next pair.dest pair.left pair.op pair.temp second.is reads_next in
               let own' : Role = role_to_next (role_to_next before (code stmt).role) (code next).role in
-              let own'_is : own' ≡ Applies pair.temp pair.left pair.op pair.word =
+              let own'_is : own' ≡ Applies pair.dest pair.left pair.op pair.word =
               ap (λ r. role_to_next r (code next).role) own_is ∙ pair.following in
               let after_last : role_to_next own' (code last).role ≡ (code last).role =
               ap (λ r. role_to_next r (code last).role) own'_is in
@@ -481,22 +482,22 @@ module _ {T : Setting} {R : Running} (valid : IsRunning T R) (calls : Calls) (fo
               (short_return frame R.places pair.left (short_form pair.op (word_of_constant first.value))) =
               piece_by own' (role_first (map code rest)) last false true
               (ap₂ (λ r q. joins (role_to_next r q) (role_first (map code rest))) own'_is gives)
-              (ap₂ joins own'_is gives ∙ eq-eqb pair.temp pair.temp refl) ∙
+              (ap₂ joins own'_is gives ∙ eq-eqb pair.dest pair.dest refl) ∙
               ap₂ (as_one frame R.places) own'_is gives ∙
               ap (λ w. straightly frame R.places (short_return frame R.places pair.left (short_form pair.op w))) word_is
               in
               three_follow before stmt next last rest (tac.Const pair.temp first.value)
-              (tac.Op pair.temp pair.op pair.left (Some pair.temp)) (tac.Return (Some pair.temp))
+              (tac.Op pair.dest pair.op pair.left (Some pair.temp)) (tac.Return (Some pair.dest))
               (straightly frame R.places
               (short_return frame R.places pair.left (short_form pair.op (word_of_constant first.value))))
-              (gives_back valid calls pair.temp pair.left first.value pair.op second.apart wants)
-              (all_three valid calls pair.temp pair.left first.value pair.op second.apart wants)
+              (gives_back valid calls pair.temp pair.dest pair.left first.value pair.op second.lone wants)
+              (all_three valid calls pair.temp pair.dest pair.left first.value pair.op second.lone wants)
               first.is second.is third_is c1 c2 c3
-              (back_follows_here pair.temp pair.left first.value pair.op pair.form second.apart wants
+              (back_follows_here pair.temp pair.dest pair.left first.value pair.op pair.form second.lone wants
               (ap (short_form pair.op) first.word_is ∙ pair.form_is) (subst (PassesAll tests) first.is pass)
               (subst (PassesAll tests) second.is pass'))
-              (three_as_one valid calls pair.temp pair.left first.value pair.op
-              second.apart wants (all_do (map does rest)) (map trail rest))
+              (three_as_one valid calls pair.temp pair.dest pair.left first.value pair.op
+              second.lone wants (all_do (map does rest)) (map trail rest))
               (subst (λ r. Row r rest) (sym after_last) later)
 
   -- what is read in a row
@@ -504,18 +505,18 @@ module _ {T : Setting} {R : Running} (valid : IsRunning T R) (calls : Calls) (fo
   RowNeeds before stmts = AllNeeded (row_needs (gives_of before) (map need stmts))
 
   record RowParts (before : Role) (stmt : TacStmt) (rest : List TacStmt) : Type 0 where
-    place : AllNeeded (place_needed (gives_of before) (need stmt).stores)
+    taken : AllNeeded (taken_needed (gives_of before) (need stmt).takes)
     reads : AllNeeded (need stmt).reads
     following : RowNeeds (code stmt).role rest
 
   row_parts : (before : Role) (stmt : TacStmt) (rest : List TacStmt) → RowNeeds before (stmt ∷ rest) →
       RowParts before stmt rest
   row_parts before stmt rest h =
-      let first = all_append R.plan.needed (place_needed (gives_of before) (need stmt).stores)
+      let first = all_append R.plan.needed (taken_needed (gives_of before) (need stmt).takes)
       ((need stmt).reads ++ row_needs (need stmt).gives (map need rest)) h in
       let second = all_append R.plan.needed (need stmt).reads (row_needs (need stmt).gives (map need rest)) first.1 in
       record {
-        place = first.0;
+        taken = first.0;
         reads = second.0;
         following = subst (λ g. AllNeeded (row_needs g (map need rest)))
             (sym (need_gives frame R.places R.plan stmt)) second.1;
@@ -534,7 +535,7 @@ module _ {T : Setting} {R : Running} (valid : IsRunning T R) (calls : Calls) (fo
       let parts = row_parts before stmt [] needs in
       by_itself before stmt [] none (none_after (code stmt).role)
       (each.0 (first_passes tests stmt [] pass) parts.reads
-      (store_unjoined frame R.places R.plan before stmt parts.place none)) (λ few. nothing_follows T R)
+      (taken_unjoined frame R.places R.plan before stmt parts.taken none)) (λ few. nothing_follows T R)
   row_from before (stmt ∷ next ∷ []) each pass needs none =
       let following = rest_pass tests stmt (next ∷ []) pass in
       let parts = row_parts before stmt (next ∷ []) needs in
@@ -542,7 +543,7 @@ module _ {T : Setting} {R : Running} (valid : IsRunning T R) (calls : Calls) (fo
       by_test (joins (code stmt).role (code next).role)
       (λ alone. by_itself before stmt (next ∷ []) none alone
       (each.0 (first_passes tests stmt (next ∷ []) pass) parts.reads
-      (store_unjoined frame R.places R.plan before stmt parts.place none))
+      (taken_unjoined frame R.places R.plan before stmt parts.taken none))
       (row_from (code stmt).role (next ∷ []) each.1 following parts.following alone))
       (λ both. pair_follows before stmt next [] none both
       (none_after (role_to_next (code stmt).role (code next).role)) (first_passes tests stmt (next ∷ []) pass)
@@ -557,7 +558,7 @@ module _ {T : Setting} {R : Running} (valid : IsRunning T R) (calls : Calls) (fo
       let next_passes = first_passes tests next (last ∷ rest) following in
       by_test (joins (code stmt).role (code next).role)
       (λ alone. by_itself before stmt (next ∷ last ∷ rest) none alone
-      (each.0 both_pass parts.reads (store_unjoined frame R.places R.plan before stmt parts.place none))
+      (each.0 both_pass parts.reads (taken_unjoined frame R.places R.plan before stmt parts.taken none))
       (row_from (code stmt).role (next ∷ last ∷ rest) each.1 following parts.following alone))
       (λ both. by_test (joins (role_to_next (code stmt).role (code next).role) (code last).role)
       (λ alone. pair_follows before stmt next (last ∷ rest) none both alone both_pass next_passes later.reads
@@ -568,7 +569,7 @@ module _ {T : Setting} {R : Running} (valid : IsRunning T R) (calls : Calls) (fo
       (third_is_last (code stmt).role (code next).role (code last).role (role_first (map code rest)) both third))))
 
   row_of : (stmts : List TacStmt) → Each Followed stmts → AllPass tests stmts →
-      AllNeeded (row_needs None (map need stmts)) →
+      AllNeeded (row_needs Other (map need stmts)) →
       (in_order frame R.places (map code stmts)).size ≤ limit →
       Follows T R (all_do (map does stmts)) (in_order frame R.places (map code stmts)) (row (map trail stmts))
   row_of stmts each pass needs few = row_from Other stmts each pass needs refl few
@@ -580,7 +581,7 @@ module _ {T : Setting} {R : Running} (valid : IsRunning T R) (calls : Calls) (fo
   abbrev Shape : TacStmt-F TacStmt → Type 0
   Shape layer =
       PassesHere tests layer → PassesAll tests (roll-TacStmt layer) → AllNeeded (layer_need layer).reads →
-      StoresNeeded (layer_need layer) →
+      TakesNeeded (layer_need layer) →
       (select_step frame R.places R.plan (map-TacStmt _ _ code layer)).size ≤ limit →
       Follows T R (code_step wrapping here calls (map-TacStmt _ _ does layer))
       (select_step frame R.places R.plan (map-TacStmt _ _ code layer)) (trail_step (map-TacStmt _ _ trail layer))
@@ -683,7 +684,7 @@ module _ {T : Setting} {R : Running} (valid : IsRunning T R) (calls : Calls) (fo
   if_level cond first second each each' h all needs at few =
       let pass = choice_passes tests cond first second all in
       let cond_read = and_parts (R.plan.needed cond) _ needs in
-      let inner = all_append R.plan.needed (row_needs None (map need first)) (row_needs None (map need second))
+      let inner = all_append R.plan.needed (row_needs Other (map need first)) (row_needs Other (map need second))
       cond_read.1 in
       let least = parts_least frame R.places cond (map code first) (map code second) in
       fork_follows valid cond (all_do (map does first)) (all_do (map does
@@ -695,9 +696,10 @@ module _ {T : Setting} {R : Running} (valid : IsRunning T R) (calls : Calls) (fo
       Shape (tac.Loop head body next)
   loop_level head body next each each' each'' h all needs at =
       let pass = loop_passes tests head body next all in
-      let first = all_append R.plan.needed (row_needs None (map need head))
-      (row_needs None (map need body) ++ row_needs None (map need next)) needs in
-      let second = all_append R.plan.needed (row_needs None (map need body)) (row_needs None (map need next)) first.1 in
+      let first = all_append R.plan.needed (row_needs Other (map need head))
+      (row_needs Other (map need body) ++ row_needs Other (map need next)) needs in
+      let second = all_append R.plan.needed (row_needs Other (map need body)) (row_needs Other (map need next)) first.1
+      in
       let b : Code = in_order frame R.places (map code body) in
       let n : Code = in_order frame R.places (map code next) in
       turning_by frame R.places R.plan (λ piece. piece.size ≤ limit → Follows T R
@@ -723,7 +725,13 @@ module _ {T : Setting} {R : Running} (valid : IsRunning T R) (calls : Calls) (fo
   op_level dest o left right h all needs at few =
       let place = place_there dest (left ∷ one_or_none right) h.0 in
       op_follows valid calls dest o left place.0 place.1 right
-      (beq_same (is_some right) (takes_two o) h.1.1.0) (is_sound o h.1.1.1.1.1.0) needs
+      (beq_same (is_some right) (takes_two o) h.1.1.0) (is_sound o h.1.1.1.1.1.0)
+      (and_first (R.plan.needed left) true needs) (right_read right at)
+    where
+      right_read : (right : Option ℕ) → TakesNeeded (layer_need (tac.Op dest o left right)) → (t : ℕ) →
+          right ≡ Some t → R.plan.needed t ≡ true
+      right_read None at t is = cc is
+      right_read (Some temp) at t is = at t is
 
   level : (layer : TacStmt-F TacStmt) → Inside Followed layer → Level layer
   level (tac.Const dest value) inner = record { holds = const_level dest value }
@@ -770,7 +778,7 @@ module _ {T : Setting} {R : Running} (valid : IsRunning T R) (calls : Calls) (fo
       (subst (λ t. Follows T R (code_step wrapping here calls (map-TacStmt _ _ does layer))
       (select_step frame R.places R.plan (map-TacStmt _ _ code layer)) t) (sym t)
       (l.holds (passes_here tests layer pass) pass (subst (λ (n : Need). AllNeeded n.reads) n reads)
-      (subst StoresNeeded n at) (subst (λ c. c.size ≤ limit) c few))))
+      (subst TakesNeeded n at) (subst (λ c. c.size ≤ limit) c few))))
 
   pub stmt_follows : (stmt : TacStmt) → Followed stmt
   stmt_follows = stmt_induction Followed (λ layer inner. from_level layer (level layer inner))

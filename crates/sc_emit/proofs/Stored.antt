@@ -12,6 +12,7 @@ use Rattle.sc_emit.proofs.Common.{◌∙◌, ◌∷◌, ◌≡◌, ◌≢◌, �
 use Rattle.sc_tac.specs.declared.stmt.TacStmt.TheOpen as tac
 use Rattle.sc_emit.proofs.Operands.{AtHand, brings, second_is, world}
 use Rattle.sc_emit.proofs.Operations.{comes_stored, stored_goes}
+use Rattle.sc_emit.proofs.Pairs.{unmissed}
 use Rattle.sc_emit.proofs.Plain.{start_stands}
 use Rattle.sc_emit.proofs.Straight.{comes_past, read_goes, straight_follows}
 
@@ -69,19 +70,8 @@ module _ {T : Setting} {R : Running} (valid : IsRunning T R) (calls : Calls)
   -- nobody misses the place in its temporary
   without_place : (live : TempSet) (x : Joint) (budget left : ℕ) (temps : Temps) (s : Meant) (pc : ℕ) →
       Arrives T R live x budget left temps s pc → Arrives T R live x budget left (set temps) s pc
-  without_place live x budget left temps s pc g = record {
-    y = g.y;
-    meant_is = g.meant_is;
-    pc_is = g.pc_is;
-    leads = g.leads;
-    ready = record {
-      settled = g.ready.settled;
-      frame = g.ready.frame;
-      held = λ t w on known.
-          g.ready.held t w on (sym (temps_are temps t (and_rest (live t) (R.plan.needed t) on)) ∙ known);
-      sp = g.ready.sp;
-    };
-  }
+  without_place live x budget left temps s pc =
+      unmissed T R live x budget left temps (set temps) s pc (temps_are temps)
 
   assigns_goes : (temps : Temps) → Goes (assigns temps)
   assigns_goes temps =

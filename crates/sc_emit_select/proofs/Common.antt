@@ -32,20 +32,20 @@ pub use Rattle.sc_emit_select.specs.Prelude.{binary_code, branch_back, branch_re
 pub use Rattle.sc_emit_select.specs.Prelude.{bytes_of, call_cross, call_own, choice, choosing, closing, code_of}
 pub use Rattle.sc_emit_select.specs.Prelude.{code_of_lines, copied, cycle, ending_past, ending_test, environment_call}
 pub use Rattle.sc_emit_select.specs.Prelude.{epilogue, first_scratch, followed, fork, frame_taken, function_lines}
-pub use Rattle.sc_emit_select.specs.Prelude.{has_mark, in_order, in_turn, is_break, is_near, is_plain, is_short, joined}
-pub use Rattle.sc_emit_select.specs.Prelude.{joins, jump_back, jump_over, keep, kept, kind_by, kind_of_fork, lines_of}
-pub use Rattle.sc_emit_select.specs.Prelude.{load_from, load_word, loading, loop_begins, moved_by, need, need_step}
-pub use Rattle.sc_emit_select.specs.Prelude.{needed_in, needs_of, nothing, object_offset, object_read, object_store}
-pub use Rattle.sc_emit_select.specs.Prelude.{op_code, operand, operation, pass, past, place_needed, place_of_global}
-pub use Rattle.sc_emit_select.specs.Prelude.{plain, plainly, plan_by, plan_of, pointer_difference, pointer_move}
-pub use Rattle.sc_emit_select.specs.Prelude.{prologue, put, receive, referring, register_of, relocation_of}
-pub use Rattle.sc_emit_select.specs.Prelude.{relocations_from, result_register, return, role_before, role_first}
-pub use Rattle.sc_emit_select.specs.Prelude.{role_of_load, role_of_operation, role_of_return, role_of_store}
+pub use Rattle.sc_emit_select.specs.Prelude.{has_mark, held_in, in_order, in_turn, is_break, is_near, is_plain}
+pub use Rattle.sc_emit_select.specs.Prelude.{is_short, joined, joins, jump_back, jump_over, keep, kept, kind_by}
+pub use Rattle.sc_emit_select.specs.Prelude.{kind_of_fork, lines_of, load_from, load_word, loading, loop_begins}
+pub use Rattle.sc_emit_select.specs.Prelude.{moved_by, need, need_step, needed_in, needs_of, nothing, object_offset}
+pub use Rattle.sc_emit_select.specs.Prelude.{object_read, object_store, op_code, operand, operation, pass, past}
+pub use Rattle.sc_emit_select.specs.Prelude.{place_of_global, plain, plainly, plan_by, plan_of, pointer_difference}
+pub use Rattle.sc_emit_select.specs.Prelude.{pointer_move, prologue, put, receive, referring, register_of}
+pub use Rattle.sc_emit_select.specs.Prelude.{relocation_of, relocations_from, result_register, return, role_before}
+pub use Rattle.sc_emit_select.specs.Prelude.{role_first, role_of_load, role_of_operation, role_of_return, role_of_store}
 pub use Rattle.sc_emit_select.specs.Prelude.{role_to_next, rotated, row_needs, second_operand, select, select_all}
 pub use Rattle.sc_emit_select.specs.Prelude.{select_step, short_code, short_form, short_operation, short_return}
 pub use Rattle.sc_emit_select.specs.Prelude.{skipping, slot_offset, stepped, store_arguments, store_to, store_word}
-pub use Rattle.sc_emit_select.specs.Prelude.{straight, straightly, take, take_second, taken, test_by, test_of, testing}
-pub use Rattle.sc_emit_select.specs.Prelude.{turning, unary_code, word_of_constant}
+pub use Rattle.sc_emit_select.specs.Prelude.{straight, straightly, take, take_second, taken, taken_needed, test_by}
+pub use Rattle.sc_emit_select.specs.Prelude.{test_of, testing, turning, unary_code, word_of_constant}
 pub use Rattle.sc_emit_select.specs.declared.operators.ShortForm.{ShortForm}
 pub use Rattle.sc_emit_select.specs.declared.roles.Role.{Role}
 pub use Rattle.sc_emit_select.specs.declared.roles.Role.TheVariants.{Applies, Loads, Operates, Other, Places, Returns}

@@ -6,7 +6,7 @@ use Rattle.sc_emit_select.proofs.Common.{Stores, TacOp, TacStmt, TacStmt-F, [], 
 use Rattle.sc_emit_select.proofs.Common.{as_one, between, choice, choosing, drop, ending_past, eqb-true, false}
 use Rattle.sc_emit_select.proofs.Common.{fold-roll-TacStmt, followed, fork, get_or, if◌then◌else◌, in_order, in_turn}
 use Rattle.sc_emit_select.proofs.Common.{inl, inr, is_some, joined, joins, jump_over, kind_of_fork, length, map}
-use Rattle.sc_emit_select.proofs.Common.{map-TacStmt, not, nothing, object_read, object_store, past, refl, role_before}
+use Rattle.sc_emit_select.proofs.Common.{map-TacStmt, nothing, object_read, object_store, past, refl, role_before}
 use Rattle.sc_emit_select.proofs.Common.{role_first, role_of_operation, role_of_store, role_to_next, roll-TacStmt}
 use Rattle.sc_emit_select.proofs.Common.{select, select_step, short_form, short_operation, short_return, skipping}
 use Rattle.sc_emit_select.proofs.Common.{stmt_induction, straight, straightly, suc, sym, true, turning}
@@ -20,7 +20,7 @@ pub none_after : (role : Role) → joins role Other ≡ false
 none_after (Places temp object) = refl
 none_after (Loads temp) = refl
 none_after (Sets temp word) = refl
-none_after (Operates temp left o) = refl
+none_after (Operates dest left o right) = refl
 none_after (Stores temp value) = refl
 none_after (Applies temp left o word) = refl
 none_after (Returns temp) = refl
@@ -28,8 +28,8 @@ none_after Other = refl
 
 -- a statement that isn't one with the one before it is to its neighbour what it is by itself
 pub role_unjoined : (before own : Role) → joins before own ≡ false → role_to_next before own ≡ own
-role_unjoined (Sets temp word) (Operates other left o) h =
-    ap (λ b. if b then Applies other left o word else Operates other left o) h
+role_unjoined (Sets temp word) (Operates dest left o right) h =
+    ap (λ b. if b then Applies dest left o word else Operates dest left o right) h
 role_unjoined (Sets temp word) (Places other object) h = refl
 role_unjoined (Sets temp word) (Loads other) h = refl
 role_unjoined (Sets temp word) (Sets other value) h = refl
@@ -39,7 +39,7 @@ role_unjoined (Sets temp word) (Returns other) h = refl
 role_unjoined (Sets temp word) Other h = refl
 role_unjoined (Places temp object) own h = refl
 role_unjoined (Loads temp) own h = refl
-role_unjoined (Operates temp left o) own h = refl
+role_unjoined (Operates dest left o right) own h = refl
 role_unjoined (Stores temp value) own h = refl
 role_unjoined (Applies temp left o word) own h = refl
 role_unjoined (Returns temp) own h = refl
@@ -48,11 +48,11 @@ role_unjoined Other own h = refl
 -- what it is depends only on the one before it
 role_twice : (first second third : Role) →
     role_to_next (role_to_next first second) third ≡ role_to_next second third
-role_twice (Sets temp word) (Operates other left o) third = by (temp == other && is_some (short_form o word))
+role_twice (Sets temp word) (Operates dest left o right) third = by (temp == right && is_some (short_form o word))
   where
     by : (b : Bool) →
-        role_to_next (if b then Applies other left o word else Operates other left o) third ≡
-        role_to_next (Operates other left o) third
+        role_to_next (if b then Applies dest left o word else Operates dest left o right) third ≡
+        role_to_next (Operates dest left o right) third
     by true = refl
     by false = refl
 role_twice (Sets temp word) (Places other object) third = refl
@@ -64,7 +64,7 @@ role_twice (Sets temp word) (Returns other) third = refl
 role_twice (Sets temp word) Other third = refl
 role_twice (Places temp object) second third = refl
 role_twice (Loads temp) second third = refl
-role_twice (Operates temp left o) second third = refl
+role_twice (Operates dest left o right) second third = refl
 role_twice (Stores temp value) second third = refl
 role_twice (Applies temp left o word) second third = refl
 role_twice (Returns temp) second third = refl
@@ -89,13 +89,14 @@ pub record IsStored (first second : Role) : Type 0 where
 pub record IsShort (first second : Role) : Type 0 where
   pub temp : ℕ
   pub word : ℕ
+  pub dest : ℕ
   pub left : ℕ
   pub op : TacOp
   pub form : ShortForm
   pub sets : first ≡ Sets temp word
-  pub operates : second ≡ Operates temp left op
+  pub operates : second ≡ Operates dest left op temp
   pub form_is : short_form op word ≡ Some form
-  pub following : role_to_next first second ≡ Applies temp left op word
+  pub following : role_to_next first second ≡ Applies dest left op word
 
 -- two that return what the first computes
 pub record IsReturned (first second : Role) : Type 0 where
@@ -110,24 +111,22 @@ there : {A : Type 0} (o : Option A) → is_some o ≡ true → (x : A) × (o ≡
 there None h = cc h
 there (Some x) h = (x, refl)
 
-short_by : (temp other word left : ℕ) (o : TacOp) → (temp == other && is_some (short_form o word)) ≡ true →
-    IsShort (Sets temp word) (Operates other left o)
-short_by temp other word left o h =
-    let found = there (short_form o word) (and_rest (temp == other) (is_some (short_form o word)) h) in
-    let same : (temp == other) ≡ true = and_first (temp == other) (is_some (short_form o word)) h in
+short_by : (temp right word dest left : ℕ) (o : TacOp) → (temp == right && is_some (short_form o word)) ≡ true →
+    IsShort (Sets temp word) (Operates dest left o right)
+short_by temp right word dest left o h =
+    let found = there (short_form o word) (and_rest (temp == right) (is_some (short_form o word)) h) in
+    let same : (temp == right) ≡ true = and_first (temp == right) (is_some (short_form o word)) h in
     record {
       temp = temp;
       word = word;
+      dest = dest;
       left = left;
       op = o;
       form = found.0;
       sets = refl;
-      operates = ap (λ t. Operates t left o)
-          (sym (eqb-true temp other (and_first (temp == other) (is_some (short_form o word)) h)));
+      operates = ap (Operates dest left o) (sym (eqb-true temp right same));
       form_is = found.1;
-      following =
-          ap (λ b. if b then Applies other left o word else Operates other left o) h ∙
-          ap (λ t. Applies t left o word) (sym (eqb-true temp other same));
+      following = ap (λ b. if b then Applies dest left o word else Operates dest left o right) h;
     }
 
 -- two statements that are one piece are of one of these kinds
@@ -146,7 +145,8 @@ which_pair (Places temp object) (Stores other value) h = inr (inl (record {
   gives = refl;
   stores = ap (λ t. Stores t value) (sym (eqb-true temp other h));
 }))
-which_pair (Sets temp word) (Operates other left o) h = inr (inr (inl (short_by temp other word left o h)))
+which_pair (Sets temp word) (Operates dest left o right) h =
+    inr (inr (inl (short_by temp right word dest left o h)))
 which_pair (Applies temp left o word) (Returns other) h = inr (inr (inr (record {
   temp = temp;
   left = left;
@@ -157,7 +157,7 @@ which_pair (Applies temp left o word) (Returns other) h = inr (inr (inr (record 
 })))
 which_pair (Places temp object) (Places other place) h = cc h
 which_pair (Places temp object) (Sets other word) h = cc h
-which_pair (Places temp object) (Operates other left o) h = cc h
+which_pair (Places temp object) (Operates dest left o right) h = cc h
 which_pair (Places temp object) (Applies other from same value) h = cc h
 which_pair (Places temp object) (Returns other) h = cc h
 which_pair (Places temp object) Other h = cc h
@@ -171,12 +171,12 @@ which_pair (Sets temp word) Other h = cc h
 which_pair (Applies temp left o word) (Places other place) h = cc h
 which_pair (Applies temp left o word) (Loads other) h = cc h
 which_pair (Applies temp left o word) (Sets other value) h = cc h
-which_pair (Applies temp left o word) (Operates other from same) h = cc h
+which_pair (Applies temp left o word) (Operates dest from same right) h = cc h
 which_pair (Applies temp left o word) (Stores other value) h = cc h
 which_pair (Applies temp left o word) (Applies other from same value) h = cc h
 which_pair (Applies temp left o word) Other h = cc h
 which_pair (Loads temp) second h = cc h
-which_pair (Operates temp left o) second h = cc h
+which_pair (Operates dest left o right) second h = cc h
 which_pair (Stores temp value) second h = cc h
 which_pair (Returns temp) second h = cc h
 which_pair Other second h = cc h
@@ -204,7 +204,7 @@ return_of (Returns other) temp left o word h = ap Returns (sym (eqb-true temp ot
 return_of (Places other object) temp left o word h = cc h
 return_of (Loads other) temp left o word h = cc h
 return_of (Sets other value) temp left o word h = cc h
-return_of (Operates other from same) temp left o word h = cc h
+return_of (Operates dest from same right) temp left o word h = cc h
 return_of (Stores other value) temp left o word h = cc h
 return_of (Applies other from same value) temp left o word h = cc h
 return_of Other temp left o word h = cc h
@@ -223,7 +223,7 @@ third_is_last first second third following both all =
     short : IsShort first second → joins third following ≡ false
     short pair =
         ap (λ r. joins r following)
-        (return_of third pair.temp pair.left pair.op pair.word (sym (ap (λ r. joins r third) pair.following) ∙ all))
+        (return_of third pair.dest pair.left pair.op pair.word (sym (ap (λ r. joins r third) pair.following) ∙ all))
 
 -- A CHOICE
 pub is_empty : {A : Type 0} (xs : List A) → (length xs == 0) ≡ true → xs ≡ []
@@ -314,15 +314,16 @@ module _ (frame : FrameTree) (places : List Place) (plan : Plan) where
 
   -- an operator does to a temporary what it does, or nothing that a neighbour would ask for
   pub operation_role : (dest : ℕ) (o : TacOp) (left : ℕ) (right : Option ℕ) →
-      (role_of_operation dest o left right ≡ Other) ⊎
-      (role_of_operation dest o left right ≡ Operates dest left o)
+      (role_of_operation plan.needed dest o left right ≡ Other) ⊎
+      ((right_one : ℕ) × (role_of_operation plan.needed dest o left right ≡ Operates dest left o right_one))
   operation_role dest o left None = inl refl
-  operation_role dest o left (Some right) = by (dest == right && not (left == dest))
+  operation_role dest o left (Some right) = by (plan.needed right)
     where
-      by : (b : Bool) → ((if b then Operates dest left o else Other) ≡ Other) ⊎
-          ((if b then Operates dest left o else Other) ≡ Operates dest left o)
-      by true = inr refl
-      by false = inl refl
+      by : (b : Bool) → ((if b then Other else Operates dest left o right) ≡ Other) ⊎
+          ((right_one : ℕ) ×
+          ((if b then Other else Operates dest left o right) ≡ Operates dest left o right_one))
+      by true = inl refl
+      by false = inr (right, refl)
 
   pub store_role : (place value : ℕ) → (role_of_store plan.needed place value ≡ Other) ⊎
       (role_of_store plan.needed place value ≡ Stores place value)
@@ -338,6 +339,13 @@ module _ (frame : FrameTree) (places : List Place) (plan : Plan) where
   other_than role its found is h none some =
       ⊎_elim (λ e. none (sym e ∙ h)) (λ e. some (sym e ∙ h)) is
 
+  -- nor does it do anything else
+  never_operates : (dest : ℕ) (o : TacOp) (left : ℕ) (right : Option ℕ) (found : Role) →
+      role_of_operation plan.needed dest o left right ≡ found → (Other ≡ found → ⊥) →
+      ((right_one : ℕ) → Operates dest left o right_one ≡ found → ⊥) → ⊥
+  never_operates dest o left right found h none some =
+      ⊎_elim (λ e. none (sym e ∙ h)) (λ e. some e.0 (sym e.1 ∙ h)) (operation_role dest o left right)
+
   layer_gives : (layer : TacStmt-F TacStmt) (temp object : ℕ) → layer_role layer ≡ Places temp object →
       roll-TacStmt layer ≡ roll-TacStmt (tac.ObjectPlace temp object)
   layer_gives (tac.ObjectPlace dest place) temp object h =
@@ -347,7 +355,7 @@ module _ (frame : FrameTree) (places : List Place) (plan : Plan) where
   layer_gives (tac.Load dest place pointer) temp object h =
       absurd (of_load (dest == place) dest temp object h)
   layer_gives (tac.Op dest o left right) temp object h =
-      absurd (other_than _ _ _ (operation_role dest o left right) h (λ e. cc e) (λ e. cc e))
+      absurd (never_operates dest o left right _ h (λ e. cc e) (λ other e. cc e))
   layer_gives (tac.Store place value) temp object h =
       absurd (other_than _ _ _ (store_role place value) h (λ e. cc e) (λ e. cc e))
   layer_gives (tac.If cond first second) temp object h =
@@ -382,7 +390,7 @@ module _ (frame : FrameTree) (places : List Place) (plan : Plan) where
           record { pointer = pointer; is = ap₂ (λ t u. roll-TacStmt (tac.Load t u pointer)) one two }
       by false e h = cc h
   layer_loads (tac.Op dest o left right) temp h =
-      absurd (other_than _ _ _ (operation_role dest o left right) h (λ e. cc e) (λ e. cc e))
+      absurd (never_operates dest o left right _ h (λ e. cc e) (λ other e. cc e))
   layer_loads (tac.Store place value) temp h =
       absurd (other_than _ _ _ (store_role place value) h (λ e. cc e) (λ e. cc e))
   layer_loads (tac.If cond first second) temp h =
@@ -414,7 +422,7 @@ module _ (frame : FrameTree) (places : List Place) (plan : Plan) where
       let two : word_of_constant value ≡ word = cc h in
       record { value = value; is = ap (λ t. roll-TacStmt (tac.Const t value)) one; word_is = two }
   layer_sets (tac.Op dest o left right) temp word h =
-      absurd (other_than _ _ _ (operation_role dest o left right) h (λ e. cc e) (λ e. cc e))
+      absurd (never_operates dest o left right _ h (λ e. cc e) (λ other e. cc e))
   layer_sets (tac.Load dest place pointer) temp word h = absurd (by (dest == place) h)
     where
       by : (b : Bool) → (if b then Loads dest else Other) ≡ Sets temp word → ⊥
@@ -438,62 +446,56 @@ module _ (frame : FrameTree) (places : List Place) (plan : Plan) where
   sets_it = stmt_induction (λ stmt. (temp word : ℕ) → role_of stmt ≡ Sets temp word → IsSet stmt temp word)
       (λ layer inside temp word h. layer_sets layer temp word (sym (role_is layer) ∙ h))
 
-  -- which is an operator whose result takes the temporary of the second operand
-  pub record IsOperation (stmt : TacStmt) (temp left : ℕ) (o : TacOp) : Type 0 where
-    pub is : stmt ≡ roll-TacStmt (tac.Op temp o left (Some temp))
-    pub apart : (left == temp) ≡ false
+  -- which is an operator whose second operand is in a temporary that only such statements read
+  pub record IsOperation (stmt : TacStmt) (dest left : ℕ) (o : TacOp) (right : ℕ) : Type 0 where
+    pub is : stmt ≡ roll-TacStmt (tac.Op dest o left (Some right))
+    pub lone : plan.needed right ≡ false
 
-  layer_operates : (layer : TacStmt-F TacStmt) (temp left : ℕ) (o : TacOp) → layer_role layer ≡ Operates temp left o →
-      IsOperation (roll-TacStmt layer) temp left o
-  layer_operates (tac.Op dest op first None) temp left o h = cc h
-  layer_operates (tac.Op dest op first (Some right)) temp left o h =
-      by (dest == right) (not (first == dest)) refl refl h
+  layer_operates : (layer : TacStmt-F TacStmt) (to left : ℕ) (o : TacOp) (right : ℕ) →
+      layer_role layer ≡ Operates to left o right → IsOperation (roll-TacStmt layer) to left o right
+  layer_operates (tac.Op dest op first None) to left o right h = cc h
+  layer_operates (tac.Op dest op first (Some second)) to left o right h = by (plan.needed second) refl h
     where
-      by : (a b : Bool) → (dest == right) ≡ a → not (first == dest) ≡ b →
-          (if a && b then Operates dest first op else Other) ≡ Operates temp left o →
-          IsOperation (roll-TacStmt (tac.Op dest op first (Some right))) temp left o
-      by true true d e h =
-          let one : dest ≡ temp = cc h in
+      by : (b : Bool) → plan.needed second ≡ b →
+          (if b then Other else Operates dest first op second) ≡ Operates to left o right →
+          IsOperation (roll-TacStmt (tac.Op dest op first (Some second))) to left o right
+      by true e h = cc h
+      by false e h =
+          let one : dest ≡ to = cc h in
           let two : first ≡ left = cc h in
           let three : op ≡ o = cc h in
-          let four : right ≡ temp = sym (eqb-true dest right d) ∙ one in
-          let other : (first == dest) ≡ false = not_true (first == dest) e in
+          let four : second ≡ right = cc h in
           record {
-            is = ap₂ (λ t l. roll-TacStmt (tac.Op t op l (Some right))) one two ∙
-                ap₂ (λ p r. roll-TacStmt (tac.Op temp p left (Some r))) three four;
-            apart = sym (ap₂ (λ l t. l == t) two one) ∙ other;
+            is = ap₂ (λ t l. roll-TacStmt (tac.Op t op l (Some second))) one two ∙
+                ap₂ (λ p r. roll-TacStmt (tac.Op to p left (Some r))) three four;
+            lone = sym (ap plan.needed four) ∙ e;
           }
-        where
-          not_true : (b : Bool) → not b ≡ true → b ≡ false
-          not_true true h = cc h
-          not_true false h = refl
-      by true false d e h = cc h
-      by false b d e h = cc h
-  layer_operates (tac.Load dest place pointer) temp left o h = absurd (by (dest == place) h)
+  layer_operates (tac.Load dest place pointer) to left o right h = absurd (by (dest == place) h)
     where
-      by : (b : Bool) → (if b then Loads dest else Other) ≡ Operates temp left o → ⊥
+      by : (b : Bool) → (if b then Loads dest else Other) ≡ Operates to left o right → ⊥
       by true h = cc h
       by false h = cc h
-  layer_operates (tac.Store place value) temp left o h =
+  layer_operates (tac.Store place value) to left o right h =
       absurd (other_than _ _ _ (store_role place value) h (λ e. cc e) (λ e. cc e))
-  layer_operates (tac.If cond first second) temp left o h =
-      let other : Other ≡ Operates temp left o =
+  layer_operates (tac.If cond first second) to left o right h =
+      let other : Other ≡ Operates to left o right =
       sym (fork_role frame places cond (map (select frame places plan) first) (map (select frame places plan)
       second)) ∙ h in cc other
-  layer_operates (tac.Loop head body next) temp left o h =
-      let other : Other ≡ Operates temp left o =
+  layer_operates (tac.Loop head body next) to left o right h =
+      let other : Other ≡ Operates to left o right =
       sym (turning_role frame places _ (map (select frame places plan) head) (in_order frame places (map (select frame
       places plan) body)) (in_order frame places (map (select frame places plan) next))) ∙ h in cc other
-  layer_operates (tac.Return None) temp left o h = cc h
-  layer_operates (tac.Return (Some given)) temp left o h = cc h
-  layer_operates _ temp left o h = cc h
+  layer_operates (tac.Return None) to left o right h = cc h
+  layer_operates (tac.Return (Some given)) to left o right h = cc h
+  layer_operates _ to left o right h = cc h
 
-  pub operates_it : (stmt : TacStmt) (temp left : ℕ) (o : TacOp) → role_of stmt ≡ Operates temp left o →
-      IsOperation stmt temp left o
+  pub operates_it : (stmt : TacStmt) (to left : ℕ) (o : TacOp) (right : ℕ) → role_of stmt ≡ Operates to left o right →
+      IsOperation stmt to left o right
   operates_it =
       stmt_induction
-      (λ stmt. (temp left : ℕ) (o : TacOp) → role_of stmt ≡ Operates temp left o → IsOperation stmt temp left o)
-      (λ layer inside temp left o h. layer_operates layer temp left o (sym (role_is layer) ∙ h))
+      (λ stmt. (to left : ℕ) (o : TacOp) (right : ℕ) → role_of stmt ≡ Operates to left o right →
+      IsOperation stmt to left o right)
+      (λ layer inside to left o right h. layer_operates layer to left o right (sym (role_is layer) ∙ h))
 
   -- which stores at a place that only such stores read
   pub record IsStore (stmt : TacStmt) (place value : ℕ) : Type 0 where
@@ -512,7 +514,7 @@ module _ (frame : FrameTree) (places : List Place) (plan : Plan) where
           let two : from ≡ value = cc h in
           record { is = ap₂ (λ p v. roll-TacStmt (tac.Store p v)) one two; lone = sym (ap plan.needed one) ∙ e }
   layer_stores (tac.Op dest o left right) place value h =
-      absurd (other_than _ _ _ (operation_role dest o left right) h (λ e. cc e) (λ e. cc e))
+      absurd (never_operates dest o left right _ h (λ e. cc e) (λ other e. cc e))
   layer_stores (tac.Load dest from pointer) place value h = absurd (by (dest == from) h)
     where
       by : (b : Bool) → (if b then Loads dest else Other) ≡ Stores place value → ⊥
@@ -546,7 +548,7 @@ module _ (frame : FrameTree) (places : List Place) (plan : Plan) where
   layer_returns (tac.Return (Some given)) temp h =
       let one : given ≡ temp = cc h in ap (λ t. roll-TacStmt (tac.Return (Some t))) one
   layer_returns (tac.Op dest o left right) temp h =
-      absurd (other_than _ _ _ (operation_role dest o left right) h (λ e. cc e) (λ e. cc e))
+      absurd (never_operates dest o left right _ h (λ e. cc e) (λ other e. cc e))
   layer_returns (tac.Load dest from pointer) temp h = absurd (by (dest == from) h)
     where
       by : (b : Bool) → (if b then Loads dest else Other) ≡ Returns temp → ⊥
@@ -573,7 +575,7 @@ module _ (frame : FrameTree) (places : List Place) (plan : Plan) where
   layer_never_applies : (layer : TacStmt-F TacStmt) (temp left : ℕ) (o : TacOp) (word : ℕ) →
       layer_role layer ≡ Applies temp left o word → ⊥
   layer_never_applies (tac.Op dest op from right) temp left o word h =
-      other_than _ _ _ (operation_role dest op from right) h (λ e. cc e) (λ e. cc e)
+      never_operates dest op from right _ h (λ e. cc e) (λ other e. cc e)
   layer_never_applies (tac.Load dest from pointer) temp left o word h = by (dest == from) h
     where
       by : (b : Bool) → (if b then Loads dest else Other) ≡ Applies temp left o word → ⊥
@@ -656,11 +658,11 @@ module _ (frame : FrameTree) (places : List Place) (plan : Plan) where
     as_one_keeps (Places temp object) (Stores other value) = store value object
     as_one_keeps (Places temp object) (Places other place) = none
     as_one_keeps (Places temp object) (Sets other value) = none
-    as_one_keeps (Places temp object) (Operates other left o) = none
+    as_one_keeps (Places temp object) (Operates dest left o right) = none
     as_one_keeps (Places temp object) (Applies other from same value) = none
     as_one_keeps (Places temp object) (Returns other) = none
     as_one_keeps (Places temp object) Other = none
-    as_one_keeps (Sets temp word) (Operates other left o) = short temp left o word
+    as_one_keeps (Sets temp word) (Operates dest left o right) = short dest left o word
     as_one_keeps (Sets temp word) (Places other object) = none
     as_one_keeps (Sets temp word) (Loads other) = none
     as_one_keeps (Sets temp word) (Sets other value) = none
@@ -672,12 +674,12 @@ module _ (frame : FrameTree) (places : List Place) (plan : Plan) where
     as_one_keeps (Applies temp left o word) (Places other object) = none
     as_one_keeps (Applies temp left o word) (Loads other) = none
     as_one_keeps (Applies temp left o word) (Sets other value) = none
-    as_one_keeps (Applies temp left o word) (Operates other from same) = none
+    as_one_keeps (Applies temp left o word) (Operates dest from same right) = none
     as_one_keeps (Applies temp left o word) (Stores other value) = none
     as_one_keeps (Applies temp left o word) (Applies other from same value) = none
     as_one_keeps (Applies temp left o word) Other = none
     as_one_keeps (Loads temp) second = none
-    as_one_keeps (Operates temp left o) second = none
+    as_one_keeps (Operates dest left o right) second = none
     as_one_keeps (Stores temp value) second = none
     as_one_keeps (Returns temp) second = none
     as_one_keeps Other second = none

@@ -159,7 +159,7 @@ module _ (frame : FrameTree) (places : List Place) (plan : Plan) where
   layer_complete (tac.Copy dest from) h =
       straightly_complete (copied frame (slice_get places dest) (slice_get places from))
   layer_complete (tac.Op dest op left right) h =
-      with_role (operation frame places dest op left right) (role_of_operation dest op left right)
+      with_role (operation frame places dest op left right) (role_of_operation plan.needed dest op left right)
   layer_complete (tac.ObjectPlace dest object) h =
       with_role
       (moved_by (result_register frame places dest) 2 (object_offset frame object) ++ keep frame places dest)

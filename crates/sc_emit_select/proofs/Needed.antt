@@ -1,12 +1,12 @@
 -- What statements need, mark by mark; and that it names only temporaries of their function.
-use Rattle.sc_emit_select.proofs.Common.{Bool, Each, Inside, IsFunction, List, Marked, Need, None, Option, Some}
-use Rattle.sc_emit_select.proofs.Common.{TacFnTree, TacStmt, TacStmt-F, [], add-one, all_true, and_first, and_rest, ap}
-use Rattle.sc_emit_select.proofs.Common.{arith, drop, drop-cons, everywhere, false, fold-TacStmt, fold-roll-TacStmt}
-use Rattle.sc_emit_select.proofs.Common.{get_or, has_mark, if◌then◌else◌, is_one, length, ltb-true, map, map-TacStmt}
-use Rattle.sc_emit_select.proofs.Common.{names_own_temps, nat_lt, ne_eqb, need, need_step, needed_in, needs_of}
-use Rattle.sc_emit_select.proofs.Common.{one_or_none, parts, place_needed, refl, replicate, row_needs, slice_get}
-use Rattle.sc_emit_select.proofs.Common.{stmt_induction, subst, suc, sym, true, with_parts, zero, ℕ, ◌&&◌, ◌++◌, ◌+◌}
-use Rattle.sc_emit_select.proofs.Common.{◌<◌, ◌==◌, ◌||◌, ◌∙◌, ◌∷◌, ◌≡◌, ◌≤◌}
+use Rattle.sc_emit_select.proofs.Common.{Bool, Each, Inside, IsFunction, List, Marked, Need, None, Option, Other, Role}
+use Rattle.sc_emit_select.proofs.Common.{Some, TacFnTree, TacStmt, TacStmt-F, [], add-one, all_true, and_first}
+use Rattle.sc_emit_select.proofs.Common.{and_rest, ap, arith, drop, drop-cons, everywhere, false, fold-TacStmt}
+use Rattle.sc_emit_select.proofs.Common.{fold-roll-TacStmt, get_or, has_mark, held_in, if◌then◌else◌, is_one, joins}
+use Rattle.sc_emit_select.proofs.Common.{length, ltb-true, map, map-TacStmt, names_own_temps, nat_lt, ne_eqb, need}
+use Rattle.sc_emit_select.proofs.Common.{need_step, needed_in, needs_of, one_or_none, parts, refl, replicate, row_needs}
+use Rattle.sc_emit_select.proofs.Common.{slice_get, stmt_induction, subst, suc, sym, taken_needed, true, with_parts}
+use Rattle.sc_emit_select.proofs.Common.{zero, ℕ, ◌&&◌, ◌++◌, ◌+◌, ◌<◌, ◌==◌, ◌||◌, ◌∙◌, ◌∷◌, ◌≡◌, ◌≤◌}
 use Rattle.std.specs.List.{list_all}
 use Rattle.std.specs.Option.{option_map, unwrap_or}
 use Rattle.std.proofs.Math.Bool.{or_assoc}
@@ -28,22 +28,22 @@ marked_on xs ys a b c h k = record {
         ∙ ap (λ one. b || one) (sym (list_any-append (λ other. other == t) xs ys)))
 
 -- one of them, and what is left
-pub row_marked : (list : List TacStmt) (i : ℕ) (stmt : TacStmt) (before stores gives : Option ℕ) (a b c : List Bool) →
-    i < length list → stmt ≡ get_or list i stmt → stores ≡ (need stmt).stores → gives ≡ (need stmt).gives →
-    Marked (place_needed before stores) a b → Marked (need stmt).reads b c → (final : List Bool) →
+pub row_marked : (list : List TacStmt) (i : ℕ) (stmt : TacStmt) (before takes gives : Role) (a b c : List Bool) →
+    i < length list → stmt ≡ get_or list i stmt → takes ≡ (need stmt).takes → gives ≡ (need stmt).gives →
+    Marked (taken_needed before takes) a b → Marked (need stmt).reads b c → (final : List Bool) →
     Marked (row_needs gives (map need (drop (i + 1) list))) c final →
     Marked (row_needs before (map need (drop i list))) a final
-row_marked list i stmt before stores gives a b c within is stores_is gives_is h k final l =
+row_marked list i stmt before takes gives a b c within is takes_is gives_is h k final l =
     let rest : List ℕ = row_needs gives (map need (drop (i + 1) list)) in
     let parted : drop i list ≡ stmt ∷ drop (i + 1) list =
     drop-cons list i stmt within ∙ (λ j. sym is j ∷ drop (sym (add-one i) j) list) in
-    let whole : place_needed before stores ++ ((need stmt).reads ++ rest) ≡
+    let whole : taken_needed before takes ++ ((need stmt).reads ++ rest) ≡
     row_needs before (map need (drop i list)) =
-    (λ j. place_needed before (stores_is j) ++
+    (λ j. taken_needed before (takes_is j) ++
     ((need stmt).reads ++ row_needs (gives_is j) (map need (drop (i + 1) list))))
     ∙ ap (λ stmts. row_needs before (map need stmts)) (sym parted) in
     subst (λ temps. Marked temps a final) whole
-    (marked_on (place_needed before stores) ((need stmt).reads ++ rest) a b final h
+    (marked_on (taken_needed before takes) ((need stmt).reads ++ rest) a b final h
     (marked_on (need stmt).reads rest b c final k l))
 
 -- NAMES BELOW A NUMBER
@@ -64,15 +64,13 @@ module _ (temps t : ℕ) (beyond : temps ≤ t) where
   -- of what a statement needs
   record Absent (n : Need) : Type 0 where
     reads : is_one t n.reads ≡ false
-    stores : is_one t (one_or_none n.stores) ≡ false
+    takes : is_one t (one_or_none (held_in n.takes)) ≡ false
 
-  place_absent : (before stores : Option ℕ) → is_one t (one_or_none stores) ≡ false →
-      is_one t (place_needed before stores) ≡ false
-  place_absent before None h = refl
-  place_absent None (Some place) h = h
-  place_absent (Some given) (Some place) h = by (given == place)
+  taken_absent : (before takes : Role) → is_one t (one_or_none (held_in takes)) ≡ false →
+      is_one t (taken_needed before takes) ≡ false
+  taken_absent before takes h = by (joins before takes)
     where
-      by : (b : Bool) → is_one t (if b then [] else place ∷ []) ≡ false
+      by : (b : Bool) → is_one t (if b then [] else one_or_none (held_in takes)) ≡ false
       by true = refl
       by false = h
 
@@ -80,11 +78,11 @@ module _ (temps t : ℕ) (beyond : temps ≤ t) where
   both_absent xs ys h k =
       list_any-append (λ other. other == t) xs ys ∙ ap (λ b. b || is_one t ys) h ∙ k
 
-  row_absent : (before : Option ℕ) (needs : List Need) → Each Absent needs → is_one t (row_needs before needs) ≡ false
+  row_absent : (before : Role) (needs : List Need) → Each Absent needs → is_one t (row_needs before needs) ≡ false
   row_absent before [] h = refl
   row_absent before (n ∷ needs) h =
-      both_absent (place_needed before n.stores) (n.reads ++ row_needs n.gives needs)
-      (place_absent before n.stores h.0.stores)
+      both_absent (taken_needed before n.takes) (n.reads ++ row_needs n.gives needs)
+      (taken_absent before n.takes h.0.takes)
       (both_absent n.reads (row_needs n.gives needs) h.0.reads (row_absent n.gives needs h.1))
 
   abbrev passes : TacStmt → Bool
@@ -101,23 +99,29 @@ module _ (temps t : ℕ) (beyond : temps ≤ t) where
 
   part_absent : (stmts : List TacStmt) → Each IsAbsent stmts → all_true (map passes stmts) ≡ true →
       is_one t (needs_of stmts) ≡ false
-  part_absent stmts each h = row_absent None (map need stmts) (each_absent stmts each h)
+  part_absent stmts each h = row_absent Other (map need stmts) (each_absent stmts each h)
 
   layer_absent : (layer : TacStmt-F TacStmt) → Inside IsAbsent layer →
       names_own_temps temps (map-TacStmt _ _ passes layer) ≡ true →
       list_all all_true (parts (map-TacStmt _ _ passes layer)) ≡ true →
       Absent (need_step (map-TacStmt _ _ need layer))
-  layer_absent (tac.Const dest value) each h k = record { reads = refl; stores = refl }
-  layer_absent (tac.Copy dest from) each h k = record { reads = not_read (Some dest) (from ∷ []) h; stores = refl }
-  layer_absent (tac.Op dest op left right) each h k =
-      record { reads = not_read (Some dest) (left ∷ one_or_none right) h; stores = refl }
-  layer_absent (tac.ObjectPlace dest object) each h k = record { reads = refl; stores = refl }
-  layer_absent (tac.GlobalPlace dest global) each h k = record { reads = refl; stores = refl }
+  layer_absent (tac.Const dest value) each h k = record { reads = refl; takes = refl }
+  layer_absent (tac.Copy dest from) each h k = record { reads = not_read (Some dest) (from ∷ []) h; takes = refl }
+  layer_absent (tac.Op dest op left None) each h k =
+      record { reads = not_read (Some dest) (left ∷ []) h; takes = refl }
+  layer_absent (tac.Op dest op left (Some right)) each h k =
+      let rest = and_rest (nat_lt dest temps) _ h in
+      record {
+        reads = not_among (left ∷ []) (ap (λ b. b && true) (and_first (nat_lt left temps) _ rest));
+        takes = not_among (right ∷ []) (and_rest (nat_lt left temps) _ rest);
+      }
+  layer_absent (tac.ObjectPlace dest object) each h k = record { reads = refl; takes = refl }
+  layer_absent (tac.GlobalPlace dest global) each h k = record { reads = refl; takes = refl }
   layer_absent (tac.Load dest place pointer) each h k =
-      record { reads = not_read (Some dest) (place ∷ []) h; stores = refl }
+      record { reads = not_read (Some dest) (place ∷ []) h; takes = refl }
   layer_absent (tac.Store place value) each h k = record {
     reads = not_read (Some place) (value ∷ []) h;
-    stores = not_among (place ∷ []) (ap (λ b. b && true) (and_first (nat_lt place temps) _ h));
+    takes = not_among (place ∷ []) (ap (λ b. b && true) (and_first (nat_lt place temps) _ h));
   }
   layer_absent (tac.If cond first second) each h k =
       let one = and_first (all_true (map passes first)) _ k in
@@ -126,7 +130,7 @@ module _ (temps t : ℕ) (beyond : temps ≤ t) where
         reads = both_absent (cond ∷ []) (needs_of first ++ needs_of second) (not_read None (cond ∷ []) h)
             (both_absent (needs_of first) (needs_of second) (part_absent first each.0 one)
             (part_absent second each.1 two));
-        stores = refl;
+        takes = refl;
       }
   layer_absent (tac.Loop head body next) each h k =
       let one = and_first (all_true (map passes head)) _ k in
@@ -137,18 +141,18 @@ module _ (temps t : ℕ) (beyond : temps ≤ t) where
         reads = both_absent (needs_of head) (needs_of body ++ needs_of next) (part_absent head each.0 one)
             (both_absent (needs_of body) (needs_of next) (part_absent body each.1 two)
             (part_absent next each.2 three));
-        stores = refl;
+        takes = refl;
       }
-  layer_absent tac.Break each h k = record { reads = refl; stores = refl }
-  layer_absent tac.Continue each h k = record { reads = refl; stores = refl }
-  layer_absent (tac.CallOwn dest function args) each h k = record { reads = not_read dest args h; stores = refl }
-  layer_absent (tac.CallCross dest comp index args) each h k = record { reads = not_read dest args h; stores = refl }
-  layer_absent (tac.Input dest) each h k = record { reads = refl; stores = refl }
-  layer_absent (tac.Output value) each h k = record { reads = not_read None (value ∷ []) h; stores = refl }
+  layer_absent tac.Break each h k = record { reads = refl; takes = refl }
+  layer_absent tac.Continue each h k = record { reads = refl; takes = refl }
+  layer_absent (tac.CallOwn dest function args) each h k = record { reads = not_read dest args h; takes = refl }
+  layer_absent (tac.CallCross dest comp index args) each h k = record { reads = not_read dest args h; takes = refl }
+  layer_absent (tac.Input dest) each h k = record { reads = refl; takes = refl }
+  layer_absent (tac.Output value) each h k = record { reads = not_read None (value ∷ []) h; takes = refl }
   layer_absent (tac.Alloc dest count words) each h k =
-      record { reads = not_read (Some dest) (count ∷ []) h; stores = refl }
-  layer_absent (tac.Free pointer) each h k = record { reads = not_read None (pointer ∷ []) h; stores = refl }
-  layer_absent (tac.Return value) each h k = record { reads = not_read None (one_or_none value) h; stores = refl }
+      record { reads = not_read (Some dest) (count ∷ []) h; takes = refl }
+  layer_absent (tac.Free pointer) each h k = record { reads = not_read None (pointer ∷ []) h; takes = refl }
+  layer_absent (tac.Return value) each h k = record { reads = not_read None (one_or_none value) h; takes = refl }
 
   stmt_absent : (stmt : TacStmt) → IsAbsent stmt
   stmt_absent = stmt_induction IsAbsent (λ layer each h.

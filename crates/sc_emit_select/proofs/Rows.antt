@@ -1,6 +1,6 @@
 -- Worked functions: the code of each.
 use Rattle.sc_emit_select.proofs.Common.{Addi, Bne, Bool, Branch, CodeTree, Ecall, FrameTree, Function, Jal, Jalr, Line}
-use Rattle.sc_emit_select.proofs.Common.{List, Load, Lw, Need, None, Op, OpImm, Piece, Place, Plan as Way, Register}
+use Rattle.sc_emit_select.proofs.Common.{List, Load, Lw, Need, Op, OpImm, Other, Piece, Place, Plan as Way, Register}
 use Rattle.sc_emit_select.proofs.Common.{Slot, Some, Store, Sub, Sw, [], all_true, ap, branch_reach, closing, code_of}
 use Rattle.sc_emit_select.proofs.Common.{code_of_lines, false, frame_of, function_lines, in_order, is_near, is_one}
 use Rattle.sc_emit_select.proofs.Common.{leaves_heap, length, nat_lt, need_step, needed_in, negsuc, not, plainly}
@@ -23,10 +23,10 @@ framed plan places = frame_of plan.objects places
 
 -- which temporaries its code reads in their places
 abbrev pub needed_by : Plan → ℕ → Bool
-needed_by plan t = is_one t (row_needs None (rows Need need_step plan.body))
+needed_by plan t = is_one t (row_needs Other (rows Need need_step plan.body))
 
 needs_are : (plan : Plan) → needed_in (function plan).body ≡ needed_by plan
-needs_are plan = λ i t. is_one t (row_needs None (rows_are Need need_step plan.body i))
+needs_are plan = λ i t. is_one t (row_needs Other (rows_are Need need_step plan.body i))
 
 abbrev way : Plan → Bool → Way
 way plan near = record { needed = needed_by plan; near = near }
@@ -65,21 +65,21 @@ down = record {
   entry = Some (entry.Export 0);
   params = 1;
   result = true;
-  temps = 5;
+  temps = 6;
   objects = 1 ∷ [];
   nodes = 12;
   body = Cycle (fetched 0 0 (Fork 0 Done (Then tac.Break Done) Done))
-      (fetched 1 0 (word 2 1 (int_op op.Sub 2 1 2 (put_into 0 3 2 Done)))) Done (fetched 4 0 (give 4));
+      (fetched 1 0 (word 2 1 (int_op op.Sub 3 1 2 (put_into 0 4 3 Done)))) Done (fetched 5 0 (give 5));
 }
 
 abbrev pub down_places : List Place
 down_places =
-    Register 0 ∷ Register 0 ∷ Register 1 ∷ Register 0 ∷ Register 0 ∷ []
+    Register 0 ∷ Register 0 ∷ Register 1 ∷ Register 0 ∷ Register 1 ∷ Register 0 ∷ []
 
 pub down_code : code_of (function down) down_places (framed down down_places) ≡ record {
   instrs =
       OpImm Addi 2 2 (negsuc 7) ∷ Store Sw 2 1 (pos 0) ∷ Store Sw 2 10 (pos 4) ∷ Jal 0 (pos 16) ∷
-      Load Lw 3 2 (pos 4) ∷ OpImm Addi 4 3 (negsuc 0) ∷ Store Sw 2 4 (pos 4) ∷
+      Load Lw 3 2 (pos 4) ∷ OpImm Addi 3 3 (negsuc 0) ∷ Store Sw 2 3 (pos 4) ∷
       Load Lw 3 2 (pos 4) ∷ Branch Bne 3 0 (negsuc 15) ∷
       Load Lw 3 2 (pos 4) ∷ OpImm Addi 10 3 (pos 0) ∷ Load Lw 1 2 (pos 0) ∷
       OpImm Addi 2 2 (pos 8) ∷ Jalr 0 1 (pos 0) ∷ Load Lw 1 2 (pos 0) ∷ OpImm Addi 2 2 (pos 8) ∷ Jalr 0 1 (pos 0) ∷ [];

@@ -493,15 +493,15 @@ module _ (frame : FrameTree) (places : List Place) (plan : Plan) where
           (as_one frame places before (select frame places plan stmt).role).size ≤ stmt_weight stmt + 1
       short pair =
           let form : Option ShortForm = short_form pair.op pair.word in
-          let operation = operates_it frame places plan stmt pair.temp pair.left pair.op pair.operates in
+          let operation = operates_it frame places plan stmt pair.dest pair.left pair.op pair.temp pair.operates in
           let heavy : stmt_weight stmt ≡ op_weight pair.op =
           ap stmt_weight operation.is ∙
-          fold-roll-TacStmt ℕ weight_step (tac.Op pair.temp pair.op pair.left (Some pair.temp)) in
+          fold-roll-TacStmt ℕ weight_step (tac.Op pair.dest pair.op pair.left (Some pair.temp)) in
           let code : (as_one frame places before (select frame places plan stmt).role).size ≡
-          (straightly frame places (short_operation frame places pair.temp pair.left form)).size =
+          (straightly frame places (short_operation frame places pair.dest pair.left form)).size =
           ap₂ (λ r s. (as_one frame places r s).size) pair.sets pair.operates in
-          let few : (straightly frame places (short_operation frame places pair.temp pair.left form)).size ≤ 7 =
-          straightly_few _ 7 (short_few pair.temp pair.left form) in
+          let few : (straightly frame places (short_operation frame places pair.dest pair.left form)).size ≤ 7 =
+          straightly_few _ 7 (short_few pair.dest pair.left form) in
           omega (arith, heavy, code, few, short_weighs pair.op pair.word pair.form pair.form_is)
 
       back : IsReturned before (select frame places plan stmt).role →

@@ -9,7 +9,7 @@ pub use Rattle.rv_code.specs.declared.instr.OpOp.TheVariants.{Add, And, Div, Div
 pub use Rattle.rv_code.specs.declared.instr.OpOp.TheVariants.{Sra, Srl, Sub, Xor}
 pub use Rattle.rv_code.specs.declared.instr.StoreOp.TheVariants.{Sw}
 pub use Rattle.rv_code.specs.declared.instr.UpperOp.TheVariants.{Lui}
-pub use Rattle.sc_tac.specs.Prelude.{everywhere, is_one, is_unsigned, passes_few, temps_read, uses_heap}
+pub use Rattle.sc_tac.specs.Prelude.{everywhere, is_one, is_unsigned, one_or_none, passes_few, temps_read, uses_heap}
 pub use Rattle.sc_tac.specs.declared.frame.FrameTree.{FrameTree}
 pub use Rattle.sc_tac.specs.declared.machine_code.CodeTree.{CodeTree}
 pub use Rattle.sc_tac.specs.declared.machine_code.Relocation.{Relocation}

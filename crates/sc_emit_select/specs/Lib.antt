@@ -7,4 +7,5 @@ pub mod Needs
 pub mod Linking
 pub mod Operators
 pub mod Pieces
+pub mod Roles
 pub mod Selection

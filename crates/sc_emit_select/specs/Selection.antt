@@ -2,9 +2,9 @@
 use Rattle.sc_emit_select.specs.Common.{Addi, Branch, CodeTree, Ecall, Entry as EntryOf, FrameTree, Function, Global}
 use Rattle.sc_emit_select.specs.Common.{Instr, Jal, Jalr, Load, Lui, Lw, OpImm, Place, Store, Sw, TacOp, TacStmt}
 use Rattle.sc_emit_select.specs.Common.{TacStmt-F, Upper, fold-TacStmt, uses_heap}
-use Rattle.std.specs.Prelude.{ℕ, zero, suc, pos, ◌+◌, ◌*◌, List, [], ◌∷◌, ◌++◌, map, length, Option, None, Some}
-use Rattle.std.specs.Prelude.{slice_get, neg_ℤ, ◌==◌, ◌&&◌, ◌-◌, if◌then◌else◌, Bool, drop, false, is_some, not, true}
-use Rattle.std.specs.Prelude.{nat_lt, take as take_prefix}
+use Rattle.std.specs.Prelude.{Bool, List, None, Option, Some, [], drop, false, if◌then◌else◌, length, map, nat_lt}
+use Rattle.std.specs.Prelude.{neg_ℤ, pos, slice_get, suc, take as take_prefix, true, zero, ℕ, ◌&&◌, ◌*◌, ◌++◌, ◌+◌, ◌-◌}
+use Rattle.std.specs.Prelude.{◌==◌, ◌∷◌}
 use Rattle.std.specs.List.{list_all}
 use Rattle.std.specs.Option.{unwrap_or}
 use Rattle.sc_event.specs.declared.row.Entry.{Entry}
@@ -12,8 +12,6 @@ use Rattle.sc_event.specs.declared.row.Entry.TheVariants.{Main}
 use Rattle.rv_code.specs.declared.instr.BranchOp.TheVariants.{Bne}
 use Rattle.sc_tac.specs.declared.function.TacFnTree.{TacFnTree}
 use Rattle.sc_tac.specs.declared.place.Place.TheVariants.{Register, Slot}
-use Rattle.sc_tac.specs.declared.stmt.Constant.{Constant}
-use Rattle.sc_tac.specs.declared.stmt.Constant.TheVariants as constant
 use Rattle.sc_tac.specs.declared.stmt.TacStmt.TheOpen as tac
 use Rattle.sc_emit_select.specs.declared.roles.Role.{Role}
 use Rattle.sc_emit_select.specs.declared.roles.Role.TheVariants.{Applies, Loads, Operates, Other, Places, Returns, Sets}
@@ -24,6 +22,8 @@ use Rattle.sc_emit_select.specs.Pieces.{ra, sp, first_scratch, second_scratch, a
 use Rattle.sc_emit_select.specs.Pieces.{loading, moved_by, load_word, store_word, frame_taken, epilogue}
 use Rattle.sc_emit_select.specs.declared.operators.ShortForm.{ShortForm}
 use Rattle.sc_emit_select.specs.Operators.{op_code, short_code, short_form}
+use Rattle.sc_emit_select.specs.Roles.{joins, role_of_operation, role_of_return, role_of_store, role_to_next}
+use Rattle.sc_emit_select.specs.Roles.{word_of_constant}
 
 -- how the code of a function is chosen: which temporaries are read in their places, and whether a branch reaches all
 -- over it
@@ -72,32 +72,6 @@ abbrev pub in_turn : List Piece → Piece
 in_turn [] = nothing
 in_turn (piece ∷ pieces) = followed piece (in_turn pieces)
 
--- two neighbours that are one piece: the second loads what stands at the place that the first gives, in place of that,
--- or stores there; or its result takes the place of the constant that the first sets and its operator reads; or it
--- returns what the first computes
-abbrev pub joins : (first second : Role) → Bool
-joins (Places temp object) (Loads other) = temp == other
-joins (Places temp object) (Stores other value) = temp == other
-joins (Sets temp word) (Operates other left o) = temp == other && is_some (short_form o word)
-joins (Applies temp left o word) (Returns other) = temp == other
-joins _ _ = false
-
--- what a statement is to the next one, with the one before it
-abbrev pub role_to_next : (before own : Role) → Role
-role_to_next (Sets temp word) (Operates other left o) =
-    if temp == other && is_some (short_form o word) then Applies other left o word else Operates other left o
-role_to_next before own = own
-
--- what an operator does to the temporary of its second operand
-abbrev pub role_of_operation : (dest : ℕ) → TacOp → (left : ℕ) → (right : Option ℕ) → Role
-role_of_operation dest o left None = Other
-role_of_operation dest o left (Some right) =
-    if dest == right && not (left == dest) then Operates dest left o else Other
-
--- a store whose place only such stores read
-abbrev pub role_of_store : (needed : ℕ → Bool) → (place value : ℕ) → Role
-role_of_store needed place value = if needed place then Other else Stores place value
-
 abbrev pub role_first : List Piece → Role
 role_first [] = Other
 role_first (piece ∷ pieces) = piece.role
@@ -107,11 +81,6 @@ abbrev pub role_before : List Piece → (at : ℕ) → Role
 role_before pieces zero = Other
 role_before pieces (suc zero) = role_first pieces
 role_before pieces (suc (suc at)) = role_to_next (role_first (drop at pieces)) (role_first (drop (suc at) pieces))
-
--- what a value that is returned is to the statement before it
-abbrev pub role_of_return : Option ℕ → Role
-role_of_return None = Other
-role_of_return (Some temp) = Returns temp
 
 abbrev pub is_plain : Kind → Bool
 is_plain Plain = true
@@ -183,10 +152,6 @@ jump_back lines = plain (Jal 0 (neg_ℤ (pos (4 * lines))))
 -- what a loop begins with, so that its first round isn't without an instruction. A jump back begins each further one
 abbrev pub loop_begins : Line
 loop_begins = plain (OpImm Addi 0 0 (pos 0))
-
-abbrev pub word_of_constant : Constant → ℕ
-word_of_constant (constant.Word w) = w
-word_of_constant constant.Null = 0
 
 -- the register in which the value at a place is at hand: its own, or a scratch register
 abbrev pub at_hand : (scratch : ℕ) → Option Place → ℕ
@@ -383,7 +348,8 @@ module _ (frame : FrameTree) (places : List Place) where
   abbrev pub as_one : (first second : Role) → Piece
   as_one (Places temp object) (Loads other) = straightly (object_read temp object)
   as_one (Places temp object) (Stores other value) = straightly (object_store value object)
-  as_one (Sets temp word) (Operates other left o) = straightly (short_operation temp left (short_form o word))
+  as_one (Sets temp word) (Operates dest left o right) =
+      straightly (short_operation dest left (short_form o word))
   as_one (Applies temp left o word) (Returns other) = straightly (short_return left (short_form o word))
   as_one _ _ = nothing
 
@@ -441,7 +407,9 @@ module _ (frame : FrameTree) (places : List Place) where
         }
     select_step (tac.Copy dest from) = straightly (copied frame (place_of dest) (place_of from))
     select_step (tac.Op dest o left right) =
-        record (straightly (operation dest o left right)) { role = role_of_operation dest o left right }
+        record (straightly (operation dest o left right)) {
+          role = role_of_operation plan.needed dest o left right;
+        }
     select_step (tac.ObjectPlace dest object) =
         record (straightly (moved_by (result_register dest) sp (object_offset frame object) ++ keep dest)) {
           role = Places dest object;

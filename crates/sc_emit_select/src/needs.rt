@@ -1,10 +1,12 @@
 //! Which temporaries are read in their places.
 
 ghost use Rattle.sc_emit_select.specs.Marks.{Marked};
-ghost use Rattle.sc_emit_select.specs.Needs.{has_mark, need, needed_in, needs_of, place_needed};
+ghost use Rattle.sc_emit_select.specs.Needs.{has_mark, need, needed_in, needs_of, taken_needed};
 ghost use Rattle.sc_tac.specs.Parts.{one_or_none};
 ghost use Rattle.std.specs.Prelude.{◌≡◌, ◌∷◌, [], ℕ, false, replicate, IfOk};
 
+use crate::roles::{Role, held_in, joins, operates};
+use crate::statements::word_of_constant;
 use sc_base::OutOfMemory;
 use sc_tac::{TacFn, TacStmt, TacStmts};
 use sqlite_items::Items;
@@ -26,23 +28,39 @@ impl Model for Needs {
     ghost view = { λ needs. needs.marks };
 }
 
-// The temporary that a statement gives the place of a variable.
-fn gives(stmt: &TacStmt) -> Option<u32>
+// What a statement gives to the next one.
+fn gives(stmt: &TacStmt) -> Role
     ensures { result ≡ (need stmt.now).gives }
 {
     match stmt {
-        TacStmt::ObjectPlace { dest, .. } => Some(*dest),
-        _ => None,
+        TacStmt::ObjectPlace { dest, object } => Role::Places {
+            temp: *dest,
+            object: *object,
+        },
+        TacStmt::Const { dest, value } => Role::Sets {
+            temp: *dest,
+            word: word_of_constant(*value),
+        },
+        _ => Role::Other,
     }
 }
 
-// The temporary that holds the place of a store.
-fn stored(stmt: &TacStmt) -> Option<u32>
-    ensures { result ≡ (need stmt.now).stores }
+// What a statement takes of the one before it.
+fn takes(stmt: &TacStmt) -> Role
+    ensures { result ≡ (need stmt.now).takes }
 {
     match stmt {
-        TacStmt::Store { place, .. } => Some(*place),
-        _ => None,
+        TacStmt::Store { place, value } => Role::Stores {
+            temp: *place,
+            value: *value,
+        },
+        TacStmt::Op {
+            dest,
+            op,
+            left,
+            right,
+        } => operates(*dest, *op, *left, *right),
+        _ => Role::Other,
     }
 }
 
@@ -96,19 +114,14 @@ impl Needs {
         }
     }
 
-    // The place of a store, if it is one, but for one that the statement before it gives.
-    fn place(&mut self, before: Option<u32>, stores: Option<u32>)
-        ensures { Marked (place_needed before stores) self.old self.new }
+    // What a statement takes of the one before it, where that doesn't give it.
+    fn taken(&mut self, before: Role, takes: Role)
+        ensures { Marked (taken_needed before takes) self.old self.new }
     {
-        match (before, stores) {
-            (Some(given), Some(place)) => {
-                if given != place {
-                    self.one(place);
-                }
-            }
-            (None, Some(place)) => self.one(place),
-            (_, None) => {}
+        if joins(before, takes) {
+            return;
         }
+        self.one_or_none(held_in(takes));
     }
 
     // What statements in order read.
@@ -116,9 +129,9 @@ impl Needs {
     fn row(&mut self, stmts: &TacStmts)
         ensures { Marked (needs_of stmts.now) self.old self.new }
     {
-        let mut before = None;
+        let mut before = Role::Other;
         for stmt in stmts.as_slice() {
-            self.place(before, stored(stmt));
+            self.taken(before, takes(stmt));
             self.stmt(stmt);
             before = gives(stmt);
         }
@@ -131,10 +144,7 @@ impl Needs {
     {
         match stmt {
             TacStmt::Copy { from, .. } => self.one(*from),
-            TacStmt::Op { left, right, .. } => {
-                self.one(*left);
-                self.one_or_none(*right);
-            }
+            TacStmt::Op { left, .. } => self.one(*left),
             TacStmt::Load { place, .. } => self.one(*place),
             TacStmt::Store { value, .. } => self.one(*value),
             TacStmt::If {

@@ -1,9 +1,10 @@
 //! Statements that are one piece of code: the first gives the place of a variable and the second loads what stands
-//! there or stores there, or the first sets a constant and the second is an operator that reads it and takes its
-//! temporary, which a third may return.
+//! there or stores there, or the first sets a constant and the second is an operator that reads it, whose result a
+//! third may return.
 
-ghost use Rattle.sc_emit_select.specs.Prelude.{FrameTree, Place, has_mark, joins, plan_by, role_before, role_first};
-ghost use Rattle.sc_emit_select.specs.Prelude.{role_of_operation, role_of_return, role_of_store, role_to_next, select};
+ghost use Rattle.sc_emit_select.specs.Prelude.{FrameTree, Place, has_mark, held_in, joins, operates, plan_by};
+ghost use Rattle.sc_emit_select.specs.Prelude.{role_before, role_first, role_of_operation, role_of_return};
+ghost use Rattle.sc_emit_select.specs.Prelude.{role_of_store, role_to_next, select};
 ghost use Rattle.std.specs.Prelude.{◌≡◌, ◌≤◌, Bool, List, drop, length, map};
 
 use crate::needs::Needs;
@@ -28,13 +29,14 @@ pub enum Role {
         temp: u32,
         word: u32,
     },
-    /// A temporary, which holds the second operand, gets the result of an operator.
+    /// A temporary gets the result of an operator, whose second operand is in one that only such statements read.
     Operates {
-        temp: u32,
+        dest: u32,
         left: u32,
         op: TacOp,
+        right: u32,
     },
-    /// A value is stored at the place that a temporary holds, which only such stores after its statement read.
+    /// A value is stored at the place that a temporary holds, which only such statements read.
     Stores {
         temp: u32,
         value: u32,
@@ -54,14 +56,41 @@ pub enum Role {
     Other,
 }
 
-fn role_of_operation(dest: u32, op: TacOp, left: u32, right: Option<u32>) -> Role
-    ensures { result ≡ role_of_operation dest op left right }
+/// The temporary that holds what a statement takes of the one before it.
+pub(crate) fn held_in(role: Role) -> Option<u32>
+    ensures { result ≡ held_in role }
+{
+    match role {
+        Role::Stores { temp, .. } => Some(temp),
+        Role::Operates { right, .. } => Some(right),
+        _ => None,
+    }
+}
+
+/// An operator, which may have one operand.
+pub(crate) fn operates(dest: u32, op: TacOp, left: u32, right: Option<u32>) -> Role
+    ensures { result ≡ operates dest op left right }
 {
     match right {
-        Some(right) if dest == right && left != dest => Role::Operates {
-            temp: dest,
+        Some(right) => Role::Operates {
+            dest,
             left,
             op,
+            right,
+        },
+        None => Role::Other,
+    }
+}
+
+fn role_of_operation(needs: &Needs, dest: u32, op: TacOp, left: u32, right: Option<u32>) -> Role
+    ensures { result ≡ role_of_operation (has_mark needs.now) dest op left right }
+{
+    match right {
+        Some(right) if !needs.has(right) => Role::Operates {
+            dest,
+            left,
+            op,
+            right,
         },
         _ => Role::Other,
     }
@@ -100,7 +129,7 @@ pub(crate) fn role_of(needs: &Needs, stmt: &TacStmt) -> Role
             op,
             left,
             right,
-        } => role_of_operation(*dest, *op, *left, *right),
+        } => role_of_operation(needs, *dest, *op, *left, *right),
         TacStmt::ObjectPlace { dest, object } => Role::Places {
             temp: *dest,
             object: *object,
@@ -138,12 +167,13 @@ pub(crate) fn role_to_next(before: Role, own: Role) -> Role
         (
             Role::Sets { temp, word },
             Role::Operates {
-                temp: other,
+                dest,
                 left,
                 op,
+                right,
             },
-        ) if temp == other && short_form(op, word).is_some() => Role::Applies {
-            temp: other,
+        ) if temp == right && short_form(op, word).is_some() => Role::Applies {
+            temp: dest,
             left,
             op,
             word,
@@ -174,14 +204,8 @@ pub(crate) fn joins(first: Role, second: Role) -> bool
     match (first, second) {
         (Role::Places { temp, .. }, Role::Loads { temp: other }) => temp == other,
         (Role::Places { temp, .. }, Role::Stores { temp: other, .. }) => temp == other,
-        (
-            Role::Sets { temp, word },
-            Role::Operates {
-                temp: other,
-                op,
-                ..
-            },
-        ) => temp == other && short_form(op, word).is_some(),
+        (Role::Sets { temp, word }, Role::Operates { right, op, .. }) => temp == right
+            && short_form(op, word).is_some(),
         (Role::Applies { temp, .. }, Role::Returns { temp: other }) => temp == other,
         _ => false,
     }

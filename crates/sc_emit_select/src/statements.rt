@@ -220,8 +220,8 @@ impl Backward {
             (Role::Places { object, .. }, Role::Stores { value, .. }) => {
                 self.object_store(homes, value, object)
             }
-            (Role::Sets { temp, word }, Role::Operates { left, op, .. }) => {
-                self.short_operation(homes, temp, left, short_form(op, word))
+            (Role::Sets { word, .. }, Role::Operates { dest, left, op, .. }) => {
+                self.short_operation(homes, dest, left, short_form(op, word))
             }
             (Role::Applies { left, op, word, .. }, Role::Returns { .. }) => self.short_return(
                 homes,

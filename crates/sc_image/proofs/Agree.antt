@@ -7,7 +7,8 @@ use Rattle.sc_image.proofs.Common.{decoded, execute, execute_by, export_called, 
 use Rattle.sc_image.proofs.Common.{gate, has_heap, has_result, if_decoded, if_fetched, if◌then◌else◌, is_some}
 use Rattle.sc_image.proofs.Common.{jalr_target, jump, jump_by, jump_outside, kept_by, leaves, load_by, load_size}
 use Rattle.sc_image.proofs.Common.{may_call_export, nat_eq, next, not, on_alloc, on_call, on_input, on_output}
-use Rattle.sc_image.proofs.Common.{on_return, on_return_to, own, ra, refl, reg, saved_sp, step, step_by, store_by}
+use Rattle.sc_image.proofs.Common.{on_return, on_return_to, own, plain, ra, refl, reg, saved_sp, step, step_by}
+use Rattle.sc_image.proofs.Common.{store_by}
 use Rattle.sc_image.proofs.Common.{store_size, subst, sym, true, word_of, zone_of, zone_start, ℕ, ◌&&◌, ◌*◌, ◌∙◌, ◌∷◌}
 use Rattle.sc_image.proofs.Common.{◌≡◌}
 use Rattle.sc_image.proofs.Memory.{zone_owned}
@@ -38,7 +39,7 @@ IsInLatest state = (x : Crossing) (xs : List Crossing) → state.cross ≡ x ∷
 module _ (image image' : ImageParts) (inputs : List ℕ) (state : MachineState) (formed : IsWellFormed image)
     (formed' : IsWellFormed image') (agree : AgreeFor state.active image image') (latest : IsInLatest state) where
   jump_agree : (rd target : ℕ) (x x' : Outcome) → x ≡ x' → jump image state rd target x ≡ jump image' state rd target x'
-  jump_agree rd target x x' same = λ i. jump_by (is_some (agree.code target i)) state rd target (same i)
+  jump_agree rd target x x' same = λ i. jump_by plain (is_some (agree.code target i)) state rd target (same i)
 
   export_agree : (to target : ℕ) (index : Option ℕ) →
       export_called image state to target index ≡ export_called image' state to target index
@@ -80,10 +81,10 @@ module _ (image image' : ImageParts) (inputs : List ℕ) (state : MachineState) 
       next state) (jump_agree 0 (add_word state.pc (word_of imm)) (Traps BadJump) _ refl)
   execute_agree (Load op rd rs1 imm) =
       let address = add_word (reg state rs1) (word_of imm) in
-      ap (λ allowed. load_by allowed state op rd address) (agree.owned address (load_size op))
+      ap (λ allowed. load_by plain allowed state op rd address) (agree.owned address (load_size op))
   execute_agree (Store op rs1 rs2 imm) =
       let address = add_word (reg state rs1) (word_of imm) in
-      ap (λ allowed. store_by allowed state op address (reg state rs2)) (agree.owned address (store_size op))
+      ap (λ allowed. store_by plain allowed state op address (reg state rs2)) (agree.owned address (store_size op))
   execute_agree (OpImm op rd rs1 imm) = refl
   execute_agree (Shift op rd rs1 amount) = refl
   execute_agree (Op op rd rs1 rs2) = refl

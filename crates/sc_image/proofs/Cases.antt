@@ -4,7 +4,8 @@
 use Rattle.sc_image.proofs.Common.{Auipc, BadCall, BadFree, BadJump, Bool, Branch, Breakpoint, Crossing, Ebreak, Ecall}
 use Rattle.sc_image.proofs.Common.{Export, Fence, Goes, HasWord, HoldsBytes, Illegal, ImageParts, Instr, IsWellFormed}
 use Rattle.sc_image.proofs.Common.{IsWord, Jal, Jalr, List, Load, LoadOp, Lui, MachineState, Misaligned, NoImport, None}
-use Rattle.sc_image.proofs.Common.{Op, OpImm, Option, Outcome, Shift, ShiftOp, Some, Span, Store, StoreOp, TrapReason}
+use Rattle.sc_image.proofs.Common.{Op, OpImm, Option, Outcome, OutcomeOf, Shift, ShiftOp, Some, Span, Store, StoreOp}
+use Rattle.sc_image.proofs.Common.{TrapReason}
 use Rattle.sc_image.proofs.Common.{Traps, Upper, a0, a1, a7, add_word-lt, ap, are_data, arith, by_owner, compares}
 use Rattle.sc_image.proofs.Common.{decoded, entered_export, execute, execute_by, export_called, export_params, extended}
 use Rattle.sc_image.proofs.Common.{false, frees, gives, has_heap, if_decoded, if_fetched, if◌then◌else◌, is_some}
@@ -62,7 +63,7 @@ crossing_to state to index = record {
 }
 
 -- a property of the state, if any, that a step leads to
-abbrev pub AtNext : (MachineState → Type 0) → Outcome → Type 0
+abbrev pub AtNext : {M : Type 0} → (M → Type 0) → OutcomeOf M → Type 0
 AtNext P (Goes next) = P next
 AtNext P (Traps reason) = Unit {0}
 

@@ -43,61 +43,51 @@ pub use Rattle.rv_code.specs.Prelude.{HasWord, decoded}
 pub use Rattle.sc_store.proofs.Words.{load_of-same, stored-apart}
 pub use Rattle.sc_store.specs.Prelude.{HoldsBytes, ByteMemory, byte_of, is_in, load_of, with_bytes}
 pub use Rattle.sc_image.specs.Common.{Auipc, BadCall, BadFree, BadJump, Branch, Breakpoint, Call, Ebreak, Ecall, End}
-pub use Rattle.sc_image.specs.Common.{Ended}
-pub use Rattle.sc_image.specs.Common.{Entry, Event, EventsOut, Export, Fence, Illegal, In, Instr, Jal, Jalr, Load}
-pub use Rattle.sc_image.specs.Common.{LoadOp, Lui, Main, Misaligned, NoImport, Op, OpImm, OpOp, Out, Owner, Region, Ret}
-pub use Rattle.sc_image.specs.Common.{Shift, ShiftOp, StepsOut, Stop, Store, StoreOp, Trap, TrapReason, Upper}
-pub use Rattle.sc_image.specs.Common.{little_bytes, little_number}
+pub use Rattle.sc_image.specs.Common.{Ended, Entry, Event, EventsOut, Export, Fence, Illegal, In, Instr, Jal, Jalr}
+pub use Rattle.sc_image.specs.Common.{Load, LoadOp, Lui, Main, Misaligned, NoImport, Op, OpImm, OpOp, Out, Owner}
+pub use Rattle.sc_image.specs.Common.{Region, Ret, Shift, ShiftOp, StepsOut, Stop, Store, StoreOp, Trap, TrapReason}
+pub use Rattle.sc_image.specs.Common.{Upper, little_bytes, little_number}
 pub use Rattle.sc_image.specs.Prelude.{Adds, AgreeFor, AreBytesOf, BadOrImage, BytesNameOneImage, CallsComeBack}
 pub use Rattle.sc_image.specs.Prelude.{WrittenIsRead, a1, data_end, frees, has_heap, latest_version, most_flags}
-pub use Rattle.sc_image.specs.Prelude.{on_alloc, on_free, parts_bytes, starts_block, version_at, with_zone}
-pub use Rattle.sc_image.specs.Prelude.{mark_at, with_reg, zone_address, zone_of, zone_size, zone_start}
-pub use Rattle.sc_zone.specs.declared.span.Span.{Span}
-pub use Rattle.sc_image.specs.Prelude.{ComesBack, Crossing, Emits, EmittingComposes, Entered, EntersByEvent, Fails}
-pub use Rattle.sc_image.specs.Prelude.{FitsItsFields, FollowsFromOwn, Goes, HasCalled, ImageInMemory, IsAt}
-pub use Rattle.sc_image.specs.Prelude.{IsByte, IsCall, AreNested, IsComp, IsDistinct, IsEntry, IsImage, IsImport}
-pub use Rattle.sc_image.specs.Prelude.{IsReached, IsSilentStep, IsSteadyState, IsWellFormed, IsWord}
-pub use Rattle.sc_image.specs.Prelude.{KeepsWords}
-pub use Rattle.sc_image.specs.Prelude.{Kept, LeavesData, LeavesOthers, LegalByWords, LooksSame, OpenCall, Outcome, Own}
-pub use Rattle.sc_image.specs.Prelude.{Point, Read, MachineRun, Running, RunsAreSteady, RunsAt, MachineState}
-pub use Rattle.sc_image.specs.Prelude.{StaysAbove}
-pub use Rattle.sc_image.specs.Prelude.{StepsByInstruction, StepsEmit, StretchesCompose, MachineTracesAreLegal, Traps}
-pub use Rattle.sc_image.specs.Prelude.{Waits}
-pub use Rattle.sc_image.specs.Prelude.{Walks, a0, a7, activates, after, after_outcome, after_step}
-pub use Rattle.sc_image.specs.Prelude.{are_distinct_by, arguments, bad, bit, by_owner, byte_at, bytes_at}
-pub use Rattle.sc_image.specs.Prelude.{bytes_in_version}
-pub use Rattle.sc_image.specs.Prelude.{call_of, on_call, jump_outside, read_cause, code_bytes, code_in, code_start}
-pub use Rattle.sc_image.specs.Prelude.{comp_bytes}
-pub use Rattle.sc_image.specs.Prelude.{comp_of_code, comp_of_data, compares, comps_keep, op_result, continued}
-pub use Rattle.sc_image.specs.Prelude.{count_read, data_of, data_regions, data_start, data_with, emits_entry, on_end}
-pub use Rattle.sc_image.specs.Prelude.{execute, entered_export, export_bytes, export_called, exports_bytes}
-pub use Rattle.sc_image.specs.Prelude.{exports_keep}
-pub use Rattle.sc_image.specs.Prelude.{exported_by, extended, flags, gate, given_back, gives, globals_bytes}
-pub use Rattle.sc_image.specs.Prelude.{initial_globals}
-pub use Rattle.sc_image.specs.Prelude.{has_result, if_decoded, if_fetched, if_good, image_bytes, import_bytes}
-pub use Rattle.sc_image.specs.Prelude.{image_import, imports_bytes, imports_keep, on_input, input_at, inputs_in}
-pub use Rattle.sc_image.specs.Prelude.{image_interface}
+pub use Rattle.sc_image.specs.Prelude.{on_alloc, on_free, parts_bytes, starts_block, version_at, with_zone, with_reg}
+pub use Rattle.sc_image.specs.Prelude.{zone_address, zone_of, zone_size, zone_start, ComesBack, Crossing, Emits}
+pub use Rattle.sc_image.specs.Prelude.{EmittingComposes, Entered, EntersByEvent, FitsItsFields, FollowsFromOwn, Goes}
+pub use Rattle.sc_image.specs.Prelude.{HasCalled, ImageInMemory, IsAt, IsByte, IsCall, AreNested, IsComp, IsDistinct}
+pub use Rattle.sc_image.specs.Prelude.{IsEntry, IsImage, IsImport, IsReached, IsSilentStep, IsSteadyState, IsWellFormed}
+pub use Rattle.sc_image.specs.Prelude.{IsWord, KeepsWords, Kept, LeavesData, LeavesOthers, LegalByWords, LooksSame}
+pub use Rattle.sc_image.specs.Prelude.{OpenCall, Outcome, Own, Point, MachineRun, Running, RunsAreSteady, RunsAt}
+pub use Rattle.sc_image.specs.Prelude.{MachineState, StaysAbove, StepsByInstruction, StepsEmit, StretchesCompose}
+pub use Rattle.sc_image.specs.Prelude.{MachineTracesAreLegal, Traps, Waits, Walks, a0, a7, activates, after}
+pub use Rattle.sc_image.specs.Prelude.{after_outcome, after_step, are_distinct_by, arguments, bad, by_owner, byte_at}
+pub use Rattle.sc_image.specs.Prelude.{bytes_in_version, call_of, on_call, jump_outside, read_cause, code_in}
+pub use Rattle.sc_image.specs.Prelude.{code_start, comp_bytes, comp_of_code, comp_of_data, compares, comps_keep}
+pub use Rattle.sc_image.specs.Prelude.{op_result, continued, count_read, data_of, data_regions, data_start, data_with}
+pub use Rattle.sc_image.specs.Prelude.{emits_entry, on_end, execute, entered_export, export_bytes, export_called}
+pub use Rattle.sc_image.specs.Prelude.{exports_bytes, exports_keep, exported_by, extended, flags, gate, given_back}
+pub use Rattle.sc_image.specs.Prelude.{gives, initial_globals, has_result, if_decoded, if_fetched, image_bytes}
+pub use Rattle.sc_image.specs.Prelude.{image_import, imports_keep, on_input, input_at, inputs_in, image_interface}
 pub use Rattle.sc_image.specs.Prelude.{image_interfaces, is_argument, is_end, is_ended, is_entry, is_importable}
-pub use Rattle.sc_image.specs.Prelude.{is_result}
-pub use Rattle.sc_image.specs.Prelude.{is_same_import, is_same_name, jalr_target, jump, jump_by, keeps_rules, kept}
-pub use Rattle.sc_image.specs.Prelude.{kept_by, kept_from, later, latest_call, leaves, load_by, load_size, word_loaded}
-pub use Rattle.sc_image.specs.Prelude.{machine, may_call_export, may_input, may_output, most_globals, name_bytes, next}
-pub use Rattle.sc_image.specs.Prelude.{number_at, number_that, observation_at, observation_of, on_registers, open_after}
-pub use Rattle.sc_image.specs.Prelude.{open_calls, on_output, own, own_at, export_params, image_proto, ra, refused, reg}
-pub use Rattle.sc_image.specs.Prelude.{on_return}
+pub use Rattle.sc_image.specs.Prelude.{is_result, is_same_import, is_same_name, jalr_target, jump, jump_by, keeps_rules}
+pub use Rattle.sc_image.specs.Prelude.{kept, kept_by, kept_from, later, latest_call, leaves, load_by, load_size}
+pub use Rattle.sc_image.specs.Prelude.{word_loaded, machine, may_call_export, may_input, may_output, most_globals, next}
+pub use Rattle.sc_image.specs.Prelude.{observation_at, observation_of, on_registers, open_after, open_calls, on_output}
+pub use Rattle.sc_image.specs.Prelude.{own, own_at, export_params, image_proto, ra, refused, reg, on_return}
 pub use Rattle.sc_image.specs.Prelude.{on_return_to, saved_sp, shift_on_registers, sp, stack_size, stack_top}
-pub use Rattle.sc_image.specs.Prelude.{stack_tops}
-pub use Rattle.sc_image.specs.Prelude.{start, step, stops_or, store_by, store_size, stretch, then_on, unless_trap}
-pub use Rattle.sc_image.specs.Prelude.{unless_stopped, walk, with_pc, with_stored, without_latest}
-pub use Rattle.sc_image.specs.Prelude.{word_interface, word_interfaces, word_proto, written, ◌>>=◌}
-unfoldable pub use Rattle.sc_image.specs.Prelude.{are_data, code_at, read_comp, comp_name_at, execute_by, read_exports}
-unfoldable pub use Rattle.sc_image.specs.Prelude.{fields_at, globals_at, image_in, import_at, imports_at}
-unfoldable pub use Rattle.sc_image.specs.Prelude.{read_name, parts_at, run, start_memory, step_by, stopped}
-unfoldable pub use Rattle.sc_image.specs.Prelude.{word_at}
+pub use Rattle.sc_image.specs.Prelude.{OutcomeOf, Protection, RunOf, plain, run}
+pub use Rattle.sc_image.specs.Prelude.{stack_tops, start, step, stops_or, store_by, store_size, stretch, then_on}
+pub use Rattle.sc_image.specs.Prelude.{unless_trap, unless_stopped, walk, with_pc, with_stored, without_latest}
+pub use Rattle.sc_image.specs.Prelude.{word_interface, word_interfaces, word_proto, written}
+pub use Rattle.sc_zone.specs.declared.span.Span.{Span}
+unfoldable pub use Rattle.sc_image.specs.Prelude.{are_data, execute_by, image_in, parts_at, read_comp, read_exports}
+unfoldable pub use Rattle.sc_image.specs.Prelude.{run_by, start_memory, step_by, stopped, word_at}
+pub use Rattle.sc_fields.specs.Prelude.{Fails, Read, bit, bytes_at, code_bytes, globals_bytes, if_good, import_bytes}
+pub use Rattle.sc_fields.specs.Prelude.{imports_bytes, mark_at, name_bytes, number_at, number_that, ◌>>=◌}
+unfoldable pub use Rattle.sc_fields.specs.Prelude.{code_at, comp_name_at, fields_at, globals_at, import_at, imports_at}
+unfoldable pub use Rattle.sc_fields.specs.Prelude.{read_name}
 pub use Rattle.sc_image.specs.declared.fault.BadImage.{BadImage}
 pub use Rattle.sc_image.specs.declared.fault.BadImage.TheVariants.{Compartment, Contents, Count, Exports, Imports, Mark}
 pub use Rattle.sc_image.specs.declared.fault.BadImage.TheVariants.{Start, Version, Whole}
 pub use Rattle.sc_image.specs.declared.parts.CompPart.{CompPart}
 pub use Rattle.sc_image.specs.declared.parts.ExportPart.{ExportPart}
 pub use Rattle.sc_image.specs.declared.parts.ImageParts.{ImageParts}
-pub use Rattle.sc_image.specs.declared.parts.ImportPart.{ImportPart}
+pub use Rattle.sc_fields.specs.declared.import.ImportPart.{ImportPart}

@@ -1,46 +1,18 @@
 -- The fields of an image: what is read is what is written.
-use Rattle.sc_image.proofs.Common.{AllByRecursion, BadImage, Bool, CompPart, Compartment, Contents, Count, ExportPart}
-use Rattle.sc_image.proofs.Common.{Exports, ImageParts, ImportPart, Imports, List, Mark, Start, Version, [], and_from}
-use Rattle.sc_image.proofs.Common.{and_parts, ap, append_assoc, arith, bit, code_at, code_bytes, codes, comp_bytes}
-use Rattle.sc_image.proofs.Common.{comp_name_at, eq-eqb, eqb-true, export_bytes, exports_bytes, false, flags}
-use Rattle.sc_image.proofs.Common.{globals_at, globals_bytes, import_at, import_bytes, imports_at, imports_bytes}
-use Rattle.sc_image.proofs.Common.{is_between, is_name, is_name_byte, is_nondigit, is_same_name, latest_version}
-use Rattle.sc_image.proofs.Common.{le-leb, leb-true, length, list_all, little_bytes, lt-ltb, ltb-true, mark_at}
-use Rattle.sc_image.proofs.Common.{most_flags, most_globals, name_bytes, nat_le, nat_lt, nat_tests, not-true}
-use Rattle.sc_image.proofs.Common.{not_from_false, number_at, parts_at, parts_bytes, read_comp, read_exports}
-use Rattle.sc_image.proofs.Common.{read_name, refl, same_text, stretch, subst, suc, sym, true, version_at, zero, ℕ}
-use Rattle.sc_image.proofs.Common.{◌%◌, ◌&&◌, ◌*◌, ◌++◌, ◌+◌, ◌/◌, ◌<◌, ◌==◌, ◌^◌, ◌∙◌, ◌∷◌, ◌≡◌, ◌≤◌}
+use Rattle.sc_image.proofs.Common.{AllByRecursion, Bool, CompPart, Compartment, Contents, Count, ExportPart, Exports}
+use Rattle.sc_image.proofs.Common.{ImageParts, ImportPart, Imports, List, Mark, Start, Version, ap, append_assoc, arith}
+use Rattle.sc_image.proofs.Common.{bit, code_bytes, codes, comp_bytes, export_bytes, exports_bytes, false, flags}
+use Rattle.sc_image.proofs.Common.{globals_bytes, imports_bytes, is_between, is_name, is_same_name, latest_version}
+use Rattle.sc_image.proofs.Common.{le-leb, leb-true, length, little_bytes, lt-ltb, ltb-true, mark_at, most_flags}
+use Rattle.sc_image.proofs.Common.{most_globals, name_bytes, nat_le, nat_lt, nat_tests, parts_at, parts_bytes}
+use Rattle.sc_image.proofs.Common.{read_comp, read_exports, refl, stretch, sym, true, version_at, ℕ, ◌%◌, ◌*◌, ◌++◌}
+use Rattle.sc_image.proofs.Common.{◌+◌, ◌/◌, ◌<◌, ◌==◌, ◌^◌, ◌∙◌, ◌∷◌, ◌≡◌, ◌≤◌, lit≤}
 use Rattle.sc_image.specs.Reading.{read_export}
-use Rattle.sc_base.proofs.Filled.{name_is_short}
-use Rattle.sc_image.proofs.Fields.{IsBytes, IsField, restated, made, tested, followed, bytes_field, number_field}
-use Rattle.sc_image.proofs.Fields.{byte_field, many_field, two_wide, four_wide}
-
--- names
-
-name_bytes_are_bytes : (xs : List ℕ) → list_all is_name_byte xs ≡ true → IsBytes xs
-name_bytes_are_bytes [] all i = omega arith
-name_bytes_are_bytes (x ∷ xs) all zero = let first = (and_parts (is_name_byte x) _ all).0 in grind (arith, nat_tests)
-name_bytes_are_bytes (x ∷ xs) all (suc i) = name_bytes_are_bytes xs (and_parts _ _ all).1 i
-
-pub name_is_bytes : (name : List ℕ) → is_name name ≡ true → IsBytes name
-unfolding is_name
-name_is_bytes [] named i = absurd cc
-name_is_bytes (first ∷ rest) named zero =
-    let nondigit = (and_parts (is_nondigit first) _ named).0 in grind (arith, nat_tests)
-name_is_bytes (first ∷ rest) named (suc i) =
-    name_bytes_are_bytes rest (and_parts _ (nat_lt (length rest) 63) (and_parts _ _ named).1).0 i
-
-name_field : (cause : BadImage) → IsField (read_name cause) name_bytes (λ name. is_name name ≡ true)
-unfolding read_name
-name_field cause = restated (followed (byte_field cause) _ (λ size ok. tested (bytes_field cause size) cause is_name)
-    (λ size name a b. b.0.0)) (λ name h. refl) (λ name h. h.1.1)
-    (λ name h. (omega (arith, name_is_short name h), ((refl, name_is_bytes name h), h)))
-
-comp_name_field : IsField comp_name_at name_bytes (λ name. (is_name name ≡ true) ×
-    (is_same_name name (codes "Env") ≡ false))
-unfolding comp_name_at
-comp_name_field = restated (tested (name_field Compartment) Compartment _) (λ name h. refl)
-    (λ name h. (h.0, not-true _ h.1)) (λ name h. (h.0, not_from_false _ h.1))
+use Rattle.sc_fields.proofs.Compartments.{FitsCode, FitsGlobals, FitsImports, bit_again, bit_fits, bit_of, code_field}
+use Rattle.sc_fields.proofs.Compartments.{comp_name_field, globals_field, imports_field, mark_field, name_field}
+use Rattle.sc_fields.proofs.Compartments.{name_is_bytes}
+use Rattle.sc_fields.proofs.Fields.{IsField, restated, made, tested, followed, number_field, byte_field, many_field}
+use Rattle.sc_fields.proofs.Fields.{two_wide, four_wide}
 
 -- exports
 
@@ -48,17 +20,6 @@ pub record FitsExport (export : ExportPart) : Type 0 where
   pub name : is_name export.name ≡ true
   pub params : export.params ≤ 8
   pub entry : export.entry < 2 ^ 32
-
-bit_again : (b : Bool) → (bit b == 1) ≡ b
-bit_again true = refl
-bit_again false = refl
-
-bit_of : (n : ℕ) → n ≤ 1 → bit (n == 1) ≡ n
-bit_of n h = grind (arith, nat_tests)
-
-bit_fits : (b : Bool) → (bit b < 256) × (nat_le (bit b) 1 ≡ true)
-bit_fits true = (omega arith, refl)
-bit_fits false = (omega arith, refl)
 
 abbrev pub export_with : (name : List ℕ) (params result entry : ℕ) → ExportPart
 export_with name params result entry = record { name = name; params = params; result = result == 1; entry = entry }
@@ -74,7 +35,7 @@ export_field = restated (followed (name_field Exports) (λ (export : ExportPart)
     followed (tested (byte_field Exports) Exports (λ n. nat_le n 1)) (λ (export : ExportPart). bit export.result)
     (λ result ok.
     made (number_field Exports 4 four_wide) (export_with name params result) (λ (export : ExportPart). export.entry)
-    (λ entry. refl)) (λ result y a b. ap (λ e. bit e.result) b.1 ∙ bit_of result (leb-true _ _ a.1)))
+    (λ entry ok. refl)) (λ result y a b. ap (λ e. bit e.result) b.1 ∙ bit_of result (leb-true _ _ a.1)))
     (λ params y a b. ap (λ (e : ExportPart). e.params) b.1.1)) (λ name y a b. ap (λ (e : ExportPart). e.name) b.1.1.1))
     (λ export h. refl) (λ export h. record { name = h.0; params = leb-true _ _ h.1.0.1; entry = h.1.1.1.0 })
     (λ export h. (
@@ -96,52 +57,6 @@ exports_field = restated (followed (tested (number_field Exports 2 two_wide) Exp
     (λ exports h. refl) (λ exports h. record { few = leb-true _ _ h.0.1; each = h.1.1 })
     (λ exports h. ((omega (arith, h.few), le-leb _ _ h.few), (refl, h.each)))
 
--- imports
-
-pub record FitsImport (comps : ℕ) (import : ImportPart) : Type 0 where
-  pub comp : import.comp < comps
-  pub index : import.index < 2 ^ 16
-
-pub record FitsImports (comps : ℕ) (imports : List ImportPart) : Type 0 where
-  pub few : length imports ≤ 4096
-  pub each : AllByRecursion (FitsImport comps) imports
-
--- code and globals
-
-pub record FitsCode (code : List ℕ) : Type 0 where
-  pub short : 4 * length code ≤ stretch
-  pub each : AllByRecursion (λ word. word < 2 ^ 32) code
-
-code_size : (size k : ℕ) → (size % 4 == 0 && nat_le size stretch) ≡ true → k ≡ size / 4 → 4 * k ≡ size
-code_size size k passes is = let whole = eqb-true _ _ (and_parts _ (nat_le size _) passes).0 in omega (arith, whole, is)
-
-code_passes : (k : ℕ) → 4 * k ≤ stretch → (4 * k % 4 == 0 && nat_le (4 * k) stretch) ≡ true
-code_passes k short = and_from (4 * k % 4 == 0) _ (eq-eqb _ 0 (omega arith)) (le-leb _ _ short)
-
-code_short : (size k : ℕ) → (4 * k % 4 == 0 && nat_le (4 * k) stretch) ≡ true → 4 * k ≤ stretch
-code_short size k passes = leb-true _ _ (and_parts _ _ passes).1
-
-pub code_field : IsField code_at code_bytes FitsCode
-unfolding code_at
-code_field = restated
-    (followed (tested (number_field Contents 4 four_wide) Contents (λ n. n % 4 == 0 && nat_le n stretch))
-    (λ (code : List ℕ). 4 * length code)
-    (λ size ok. many_field (number_at Contents 4) (little_bytes 4) (λ word. word < 2 ^ 32)
-    (number_field Contents 4 four_wide) (size / 4)) (λ size code a b. code_size size (length code) a.1 b.0))
-    (λ code h. refl) (λ code h. record { short = code_short 0 (length code) h.0.1; each = h.1.1 })
-    (λ code h. ((omega (arith, h.short), code_passes (length code) h.short), (omega arith, h.each)))
-
-pub record FitsGlobals (globals : List ℕ) : Type 0 where
-  pub short : length globals ≤ most_globals
-  pub bytes : IsBytes globals
-
-pub globals_field : IsField globals_at globals_bytes FitsGlobals
-unfolding globals_at
-globals_field = restated (followed (tested (number_field Contents 4 four_wide) Contents _) _
-    (λ size ok. bytes_field Contents size) (λ size globals a b. b.0))
-    (λ globals h. refl) (λ globals h. record { short = leb-true _ _ h.0.1; bytes = h.1.1 })
-    (λ globals h. ((omega (arith, h.short), le-leb _ _ h.short), (refl, h.bytes)))
-
 -- compartments
 
 pub record FitsComp (version comps : ℕ) (comp : CompPart) : Type 0 where
@@ -150,8 +65,8 @@ pub record FitsComp (version comps : ℕ) (comp : CompPart) : Type 0 where
   pub flags : flags comp ≤ most_flags version
   pub exports : FitsExports comp.exports
   pub imports : FitsImports comps comp.imports
-  pub code : FitsCode comp.code
-  pub globals : FitsGlobals comp.globals
+  pub code : FitsCode stretch comp.code
+  pub globals : FitsGlobals most_globals comp.globals
 
 flags_of : (f : ℕ) → f ≤ 7 → bit (f % 2 == 1) + 2 * bit (f / 2 % 2 == 1) + 4 * bit (f / 4 == 1) ≡ f
 flags_of f h = grind (arith, nat_tests)
@@ -202,31 +117,16 @@ grouped name exports imports code globals f = simp append_assoc
 
 -- an image of `comps` compartments
 module _ (comps : ℕ) (few : comps ≤ 32) where
-  import_field : IsField (import_at comps) import_bytes (FitsImport comps)
-  unfolding import_at
-  import_field = restated
-      (followed (tested (byte_field Imports) Imports (λ c. nat_lt c comps)) (λ (import : ImportPart). import.comp)
-      (λ comp ok. made (number_field Imports 2 two_wide) _
-      (λ import. import.index) (λ index. refl)) (λ comp y a b. ap (λ (i : ImportPart). i.comp) b.1))
-      (λ import h. refl) (λ import h. record { comp = ltb-true _ _ h.0.1; index = h.1.0 })
-      (λ import h. ((omega (arith, h.comp, few), lt-ltb _ _ h.comp), (h.index, refl)))
-
-  pub imports_field : IsField (imports_at comps) imports_bytes (FitsImports comps)
-  unfolding imports_at
-  imports_field = restated (followed (tested (number_field Imports 2 two_wide) Imports _) _
-      (λ count ok. many_field _ import_bytes _ import_field count) (λ count imports a b. b.0))
-      (λ imports h. refl) (λ imports h. record { few = leb-true _ _ h.0.1; each = h.1.1 })
-      (λ imports h. ((omega (arith, h.few), le-leb _ _ h.few), (refl, h.each)))
-
   pub comp_field : (version : ℕ) → IsField (read_comp version comps) comp_bytes (FitsComp version comps)
   unfolding read_comp
-  comp_field version = restated (followed comp_name_field (λ (comp : CompPart). comp.name) (λ name ok.
+  comp_field version = restated (followed (comp_name_field Compartment) (λ (comp : CompPart). comp.name) (λ name ok.
       followed (tested (byte_field Compartment) Compartment (λ f. nat_le f (most_flags version)))
       (λ (comp : CompPart). flags comp)
       (λ f ok. followed exports_field (λ (comp : CompPart). comp.exports) (λ exports ok.
-      followed imports_field (λ (comp : CompPart). comp.imports) (λ imports ok.
-      followed code_field (λ (comp : CompPart). comp.code) (λ code ok.
-      made globals_field (comp_with name f exports imports code) (λ comp. comp.globals) (λ globals. refl))
+      followed (imports_field Imports comps few) (λ (comp : CompPart). comp.imports) (λ imports ok.
+      followed (code_field Contents stretch (lit≤ tt)) (λ (comp : CompPart). comp.code) (λ code ok.
+      made (globals_field Contents most_globals (lit≤ tt)) (comp_with name f exports imports code)
+      (λ comp. comp.globals) (λ globals ok. refl))
       (λ code y a b. ap (λ c. c.code) b.1)) (λ imports y a b. ap (λ (c : CompPart). c.imports) b.1.1))
       (λ exports y a b. ap (λ (c : CompPart). c.exports) b.1.1.1))
       (λ f y a b. ap (λ (c : CompPart). flags c) b.1.1.1.1 ∙
@@ -271,15 +171,9 @@ between n h = (grind (arith, nat_tests), grind (arith, nat_tests))
 passes : (n : ℕ) → 1 ≤ n → n ≤ latest_version → is_between 1 latest_version n ≡ true
 passes n low high = grind (arith, nat_tests)
 
-mark_is_bytes : IsBytes (codes "SCIM")
+pub mark_field_of_images : IsField (mark_at Mark (codes "SCIM")) (λ mark. mark) (λ mark. mark ≡ codes "SCIM")
 unfolding is_name
-mark_is_bytes = name_is_bytes (codes "SCIM") refl
-
-pub mark_field : IsField mark_at (λ mark. mark) (λ mark. mark ≡ codes "SCIM")
-mark_field = restated (tested (bytes_field Mark 4) Mark (λ mark. is_same_name mark (codes "SCIM"))) (λ mark h. refl)
-    (λ mark h. same_text mark (codes "SCIM") (sym h.1))
-    (λ mark same. subst (λ m. ((length m ≡ 4) × IsBytes m) × (is_same_name m (codes "SCIM") ≡ true)) (sym same)
-    ((refl, mark_is_bytes), refl))
+mark_field_of_images = mark_field Mark (codes "SCIM") (name_is_bytes (codes "SCIM") refl)
 
 pub version_field : IsField version_at (little_bytes 2) (λ version. (1 ≤ version) × (version ≤ latest_version))
 version_field = restated (tested (number_field Version 2 two_wide) Version (is_between 1 latest_version))
@@ -297,7 +191,7 @@ parts_field version = restated
     made (many_field (read_comp version count) comp_bytes (FitsComp version count)
     (comp_field count (count_within count ok.1).1 version) count)
     (λ comps. record { main = main; entry = entry; comps = comps }) (λ (parts : ImageParts). parts.comps)
-    (λ comps. refl)) (λ entry y a b. ap (λ (p : ImageParts). p.entry) b.1))
+    (λ comps ok. refl)) (λ entry y a b. ap (λ (p : ImageParts). p.entry) b.1))
     (λ main y a b. ap (λ (p : ImageParts). p.main) b.1.1)) (λ count y a b. b.1.1.0.0))
     (λ parts h. refl)
     (λ parts h. record {

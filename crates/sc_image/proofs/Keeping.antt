@@ -45,6 +45,13 @@ count_emits : {A S : Type 0} (same : A → A → Bool) → IsEquivalence same �
 count_emits same laws xs set len count made len-is count-is =
     rw (len-is, count-is, hash_set_len-from_list laws xs set made) refl
 
+-- things by their names
+pub names_count : {A S : Type 0} (name : A → List ℕ) (xs : List A) (set : HashSet (List ℕ) S) (len : ℕ) →
+    bag.IsFromIterResult is_same_name (map name xs) set → len ≡ hash_set_len set →
+    nat_eq len (length xs) ≡ are_distinct_by is_same_name (map name xs)
+names_count name xs set len made len-is =
+    count_emits _ (equivalence _ bytes_decides) _ set len _ made len-is (sym (length-map xs _))
+
 pub comp_names_count : {S : Type 0} (comps : List CompPart) (set : HashSet (List ℕ) S) (len : ℕ) →
     bag.IsFromIterResult is_same_name (map (λ comp. comp.name) comps) set → len ≡ hash_set_len set →
     nat_eq len (length comps) ≡ are_distinct_by is_same_name (map (λ comp. comp.name) comps)

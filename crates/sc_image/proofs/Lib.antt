@@ -12,9 +12,7 @@ pub mod Isolation
 pub mod Enters
 mod BadMachines
 pub mod Returning
-pub mod Fields
 pub mod FileFields
 pub mod Traces
-pub mod Loops
 pub mod Keeping
 pub mod Stretches

@@ -2,9 +2,9 @@
 use Rattle.sc_image.proofs.Common.{Compartment, Contents, Count, Err, Exports, ImageParts, ImportPart, Imports, List}
 use Rattle.sc_image.proofs.Common.{Mark, None, Ok, Some, Start, Version, Whole, [], bad, code_at, codes, comp_name_at}
 use Rattle.sc_image.proofs.Common.{false, fields_at, globals_at, image_bytes, image_in, import_at, imports_at}
-use Rattle.sc_image.proofs.Common.{is_name, keeps_rules, map, nat_le, number_that, parts_at, range_with_len}
-use Rattle.sc_image.proofs.Common.{read_comp, read_exports, read_name, refl, replicate, take, true, word_at, ℕ, ◌++◌}
-use Rattle.sc_image.proofs.Common.{◌∷◌, ◌≡◌}
+use Rattle.sc_image.proofs.Common.{most_globals, is_name, keeps_rules, map, nat_le, number_that, parts_at}
+use Rattle.sc_image.proofs.Common.{range_with_len, stretch, read_comp, read_exports, read_name, refl, replicate, take}
+use Rattle.sc_image.proofs.Common.{true, word_at, ℕ, ◌++◌, ◌∷◌, ◌≡◌}
 use Rattle.sc_image.specs.Reading.{read_export}
 use Rattle.sc_image.proofs.FileFields.{comp_with, export_with}
 
@@ -86,7 +86,7 @@ names : (read_name Exports (0 ∷ 65 ∷ []) ≡ Err Exports) ×
     (read_name Exports (1 ∷ 48 ∷ []) ≡ Err Exports) ×
     (read_name Exports (63 ∷ replicate 63 65 ++ 7 ∷ []) ≡ Ok (replicate 63 65, 7 ∷ [])) ×
     (read_name Exports (64 ∷ replicate 64 65) ≡ Err Exports) ×
-    (comp_name_at (3 ∷ codes "Env") ≡ Err Compartment) ×
+    (comp_name_at Compartment (3 ∷ codes "Env") ≡ Err Compartment) ×
     (read_name Exports (3 ∷ codes "Env") ≡ Ok (codes "Env", []))
 unfolding read_name comp_name_at is_name
 names = (refl, refl, refl, refl, refl, refl, refl)
@@ -98,13 +98,13 @@ tables : (number_that (λ n. nat_le n 4096) Exports 2 (0 ∷ 16 ∷ []) ≡ Ok (
     Ok (record { name = 65 ∷ []; params = 8; result = true; entry = 0x01020304 }, [])) ×
     (read_export (1 ∷ 65 ∷ 9 ∷ 1 ∷ 4 ∷ 3 ∷ 2 ∷ 1 ∷ []) ≡ Err Exports) ×
     (read_export (1 ∷ 65 ∷ 8 ∷ 2 ∷ 4 ∷ 3 ∷ 2 ∷ 1 ∷ []) ≡ Err Exports) ×
-    (imports_at 2 (1 ∷ 16 ∷ replicate 100 1) ≡ Err Imports) ×
-    (import_at 2 (1 ∷ 3 ∷ 2 ∷ []) ≡ Ok (record { comp = 1; index = 0x0203 }, [])) ×
-    (import_at 2 (2 ∷ 3 ∷ 2 ∷ []) ≡ Err Imports) ×
-    (code_at (3 ∷ 0 ∷ 0 ∷ 0 ∷ 1 ∷ 2 ∷ 3 ∷ []) ≡ Err Contents) ×
-    (code_at (4 ∷ 0 ∷ 16 ∷ 0 ∷ []) ≡ Err Contents) ×
-    (globals_at (1 ∷ 0 ∷ 7 ∷ 0 ∷ []) ≡ Err Contents) ×
-    (globals_at (3 ∷ 0 ∷ 0 ∷ 0 ∷ 7 ∷ 8 ∷ 9 ∷ []) ≡ Ok (7 ∷ 8 ∷ 9 ∷ [], []))
+    (imports_at Imports 2 (1 ∷ 16 ∷ replicate 100 1) ≡ Err Imports) ×
+    (import_at Imports 2 (1 ∷ 3 ∷ 2 ∷ []) ≡ Ok (record { comp = 1; index = 0x0203 }, [])) ×
+    (import_at Imports 2 (2 ∷ 3 ∷ 2 ∷ []) ≡ Err Imports) ×
+    (code_at Contents stretch (3 ∷ 0 ∷ 0 ∷ 0 ∷ 1 ∷ 2 ∷ 3 ∷ []) ≡ Err Contents) ×
+    (code_at Contents stretch (4 ∷ 0 ∷ 16 ∷ 0 ∷ []) ≡ Err Contents) ×
+    (globals_at Contents most_globals (1 ∷ 0 ∷ 7 ∷ 0 ∷ []) ≡ Err Contents) ×
+    (globals_at Contents most_globals (3 ∷ 0 ∷ 0 ∷ 0 ∷ 7 ∷ 8 ∷ 9 ∷ []) ≡ Ok (7 ∷ 8 ∷ 9 ∷ [], []))
 unfolding read_exports read_export imports_at import_at code_at globals_at fields_at read_name is_name
 tables = (refl, refl, refl, refl, refl, refl, refl, refl, refl, refl, refl, refl)
 

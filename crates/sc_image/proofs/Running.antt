@@ -1,8 +1,9 @@
 -- What a step is, runs and stretches of runs, and what stands in memory at the start.
 use Rattle.sc_image.proofs.Common.{BadJump, Bool, ByteMemory, CompPart, Ended, Event, EventsOut, Goes, Illegal}
 use Rattle.sc_image.proofs.Common.{ImageInMemory, ImageParts, Instr, IsAt, IsWellFormed, IsWord, List, MachineRun}
-use Rattle.sc_image.proofs.Common.{MachineState, None, Option, Outcome, Region, Some, StepsByInstruction, StepsOut}
-use Rattle.sc_image.proofs.Common.{Stop, Trap, TrapReason, Traps, Walks, [], after, after_outcome, and_from, ap}
+use Rattle.sc_image.proofs.Common.{MachineState, None, Option, Outcome, OutcomeOf, Protection, Region, RunOf, Some}
+use Rattle.sc_image.proofs.Common.{StepsByInstruction, StepsOut, Stop, Trap, TrapReason, Traps, Walks, [], after}
+use Rattle.sc_image.proofs.Common.{after_outcome, and_from, ap, by_owner, run_by}
 use Rattle.sc_image.proofs.Common.{are_data, arith, byte_of, code_in, code_start, comp_of_data, continued, data_regions}
 use Rattle.sc_image.proofs.Common.{data_start, decoded, eq-eqb, execute, execute_by, false, flat_map, if◌then◌else◌}
 use Rattle.sc_image.proofs.Common.{is_in, le-leb, le-ltb, length, list_any, little_bytes, load_of, lt-ltb, most_globals}
@@ -37,7 +38,7 @@ step_nowhere image inputs state at = rw at refl
 -- A run may be cut into pieces: it goes on from the state that it stopped in.
 
 -- a run that stops before another step doesn't stop for want of steps
-stays_by : (ended full : Bool) (stop : Stop) (earlier later : MachineRun) →
+stays_by : {M : Type 0} (ended full : Bool) (stop : Stop) (earlier later : RunOf M) →
     (if ended then Some Ended else if full then Some EventsOut else None) ≡ Some stop →
     unless_stopped stop earlier later ≡ earlier
 stays_by true full stop earlier later h = let same : Ended ≡ stop = cc h in
@@ -46,68 +47,100 @@ stays_by false true stop earlier later h = let same : EventsOut ≡ stop = cc h 
     subst (λ s. unless_stopped s earlier later ≡ earlier) same refl
 stays_by false false stop earlier later h = cc h
 
-stays : (events : ℕ) (trace : List Event) (stop : Stop) (earlier later : MachineRun) →
+stays : {M : Type 0} (events : ℕ) (trace : List Event) (stop : Stop) (earlier later : RunOf M) →
     stopped events trace ≡ Some stop → unless_stopped stop earlier later ≡ earlier
 unfolding stopped
 stays events trace stop earlier later h = stays_by _ _ stop _ later h
 
--- it stops with any number of steps
-pub run_stopped : (image : ImageParts) (inputs : List ℕ) (events n : ℕ) (state : MachineState) (stop : Stop) →
-    stopped events state.trace ≡ Some stop → run image inputs events n state ≡ record { state = state; stop = stop }
-unfolding run
-run_stopped image inputs events zero state stop h = rw h refl
-run_stopped image inputs events (suc n) state stop h = rw h refl
+-- Runs of any machine.
+module _ {M : Type 0} (protection : Protection M) (events : ℕ) where
+  abbrev runs : (steps : ℕ) → M → RunOf M
+  runs = run_by protection events
 
--- it stops for want of steps, goes on by one step, or traps
-pub run_out : (image : ImageParts) (inputs : List ℕ) (events : ℕ) (state : MachineState) →
-    stopped events state.trace ≡ None → run image inputs events 0 state ≡ record { state = state; stop = StepsOut }
-unfolding run
-run_out image inputs events state early = rw early refl
+  abbrev early_in : M → Option Stop
+  early_in state = stopped events (protection.carrier.seen state).trace
 
-pub run_goes : (image : ImageParts) (inputs : List ℕ) (events n : ℕ) (state next : MachineState) →
-    stopped events state.trace ≡ None → step image inputs state ≡ Goes next →
-    run image inputs events (suc n) state ≡ run image inputs events n next
-unfolding run
-run_goes image inputs events n state next early goes = rw (early, goes) refl
+  abbrev pc_of : M → ℕ
+  pc_of state = (protection.carrier.seen state).pc
 
-pub run_traps : (image : ImageParts) (inputs : List ℕ) (events n : ℕ) (state : MachineState) (reason : TrapReason) →
-    stopped events state.trace ≡ None → step image inputs state ≡ Traps reason →
-    run image inputs events (suc n) state ≡ record { state = state; stop = Trap reason state.pc }
-unfolding run
-run_traps image inputs events n state reason early traps = rw (early, traps) refl
+  -- it stops with any number of steps
+  pub stopped_run : (n : ℕ) (state : M) (stop : Stop) → early_in state ≡ Some stop →
+      runs n state ≡ record { state = state; stop = stop }
+  unfolding run_by
+  stopped_run zero state stop h = rw h refl
+  stopped_run (suc n) state stop h = rw h refl
 
-module _ (image : ImageParts) (inputs : List ℕ) (events n : ℕ) where
-  -- with no steps at first
-  none_first : (state : MachineState) (early : Option Stop) → stopped events state.trace ≡ early →
-      run image inputs events n state ≡ continued (run image inputs events n)
-      (stops_or early state (record { state = state; stop = StepsOut }))
-  none_first state None h = refl
-  none_first state (Some stop) h = run_stopped image inputs events n state stop h ∙ sym (stays events _ stop _ _ h)
+  -- it stops for want of steps, goes on by one step, or traps
+  pub out_run : (state : M) → early_in state ≡ None → runs 0 state ≡ record { state = state; stop = StepsOut }
+  unfolding run_by
+  out_run state early = rw early refl
 
-  -- with one step more, of which the outcome is given
-  one_more : (m : ℕ) (state : MachineState) (outcome : Outcome) →
-      ((next : MachineState) → run image inputs events (m + n) next ≡ continued (run image inputs events n)
-      (run image inputs events m next)) → after state outcome (run image inputs events (m + n)) ≡ continued
-      (run image inputs events n) (after state outcome (run image inputs events m))
-  one_more m state (Goes next) later = later next
-  one_more m state (Traps reason) later = refl
+  pub going_run : (n : ℕ) (state next : M) → early_in state ≡ None → step_by protection state ≡ Goes next →
+      runs (suc n) state ≡ runs n next
+  unfolding run_by
+  going_run n state next early goes = rw (early, goes) refl
 
-  -- and the stop before it
-  one_first : (m : ℕ) (state : MachineState) (early : Option Stop) → stopped events state.trace ≡ early →
-      ((next : MachineState) → run image inputs events (m + n) next ≡ continued (run image inputs events n)
-      (run image inputs events m next)) → stops_or early state
-      (after state (step image inputs state) (run image inputs events (m + n))) ≡ continued (run image inputs events n)
-      (stops_or early state (after state (step image inputs state) (run image inputs events m)))
-  one_first m state None h later = one_more m state _ later
-  one_first m state (Some stop) h later = sym (stays events _ stop _ _ h)
+  pub trapped_run : (n : ℕ) (state : M) (reason : TrapReason) → early_in state ≡ None →
+      step_by protection state ≡ Traps reason →
+      runs (suc n) state ≡ record { state = state; stop = Trap reason (pc_of state) }
+  unfolding run_by
+  trapped_run n state reason early traps = rw (early, traps) refl
 
-  -- m + n steps are m steps and then n
-  pub run_more : (m : ℕ) (state : MachineState) →
+  module _ (n : ℕ) where
+    -- with no steps at first
+    none_first : (state : M) (early : Option Stop) → early_in state ≡ early →
+        runs n state ≡ continued (runs n) (stops_or early state (record { state = state; stop = StepsOut }))
+    none_first state None h = refl
+    none_first state (Some stop) h = stopped_run n state stop h ∙ sym (stays events _ stop _ _ h)
+
+    -- with one step more, of which the outcome is given
+    one_more : (m : ℕ) (state : M) (outcome : OutcomeOf M) →
+        ((next : M) → runs (m + n) next ≡ continued (runs n) (runs m next)) →
+        after (pc_of state) state outcome (runs (m + n)) ≡
+        continued (runs n) (after (pc_of state) state outcome (runs m))
+    one_more m state (Goes next) later = later next
+    one_more m state (Traps reason) later = refl
+
+    -- and the stop before it
+    one_first : (m : ℕ) (state : M) (early : Option Stop) → early_in state ≡ early →
+        ((next : M) → runs (m + n) next ≡ continued (runs n) (runs m next)) → stops_or early state
+        (after (pc_of state) state (step_by protection state) (runs (m + n))) ≡
+        continued (runs n) (stops_or early state (after (pc_of state) state (step_by protection state) (runs m)))
+    one_first m state None h later = one_more m state _ later
+    one_first m state (Some stop) h later = sym (stays events _ stop _ _ h)
+
+    -- m + n steps are m steps and then n
+    pub more_run : (m : ℕ) (state : M) → runs (m + n) state ≡ continued (runs n) (runs m state)
+    unfolding run_by
+    more_run zero state = ap (λ k. runs k state) (zero-add n) ∙ none_first state _ refl
+    more_run (suc m) state =
+        ap (λ k. runs k state) (suc-add m n) ∙ one_first m state _ refl (more_run m)
+
+-- Runs of the machine with regions.
+module _ (image : ImageParts) (inputs : List ℕ) (events : ℕ) where
+  abbrev machine_by : Protection MachineState
+  machine_by = by_owner image inputs
+
+  pub run_stopped : (n : ℕ) (state : MachineState) (stop : Stop) → stopped events state.trace ≡ Some stop →
+      run image inputs events n state ≡ record { state = state; stop = stop }
+  run_stopped = stopped_run machine_by events
+
+  pub run_out : (state : MachineState) → stopped events state.trace ≡ None →
+      run image inputs events 0 state ≡ record { state = state; stop = StepsOut }
+  run_out = out_run machine_by events
+
+  pub run_goes : (n : ℕ) (state next : MachineState) → stopped events state.trace ≡ None →
+      step image inputs state ≡ Goes next → run image inputs events (suc n) state ≡ run image inputs events n next
+  run_goes = going_run machine_by events
+
+  pub run_traps : (n : ℕ) (state : MachineState) (reason : TrapReason) → stopped events state.trace ≡ None →
+      step image inputs state ≡ Traps reason →
+      run image inputs events (suc n) state ≡ record { state = state; stop = Trap reason state.pc }
+  run_traps = trapped_run machine_by events
+
+  pub run_more : (n m : ℕ) (state : MachineState) →
       run image inputs events (m + n) state ≡ continued (run image inputs events n) (run image inputs events m state)
-  unfolding run
-  run_more zero state = ap (λ k. run image inputs events k state) (zero-add n) ∙ none_first state _ refl
-  run_more (suc m) state =
-      ap (λ k. run image inputs events k state) (suc-add m n) ∙ one_first m state _ refl (run_more m)
+  run_more = more_run machine_by events
 
 -- What each step keeps, a run keeps.
 
@@ -116,26 +149,28 @@ pub after_keeps : (P : MachineState → Type 0) (state : MachineState) (outcome 
 after_keeps P state (Goes next) h k = k
 after_keeps P state (Traps reason) h k = h
 
-module _ (image : ImageParts) (inputs : List ℕ) (events : ℕ) (P : MachineState → Type 0)
-    (each : (state : MachineState) → P state → stopped events state.trace ≡ None → AtNext P (step image inputs state))
-  where
-    stop_keeps : (early : Option Stop) (state : MachineState) (later : MachineRun) → P state → (early ≡ None → P
-        later.state) →
-        P (stops_or early state later).state
-    stop_keeps None state later h k = k refl
-    stop_keeps (Some stop) state later h k = h
+module _ {M : Type 0} (protection : Protection M) (events : ℕ) (P : M → Type 0)
+    (each : (state : M) → P state → early_in protection events state ≡ None → AtNext P (step_by protection state)) where
+  stop_keeps : (early : Option Stop) (state : M) (later : RunOf M) → P state → (early ≡ None → P later.state) →
+      P (stops_or early state later).state
+  stop_keeps None state later h k = k refl
+  stop_keeps (Some stop) state later h k = h
 
-    go_keeps : (state : MachineState) (outcome : Outcome) (go : MachineState → MachineRun) → P state →
-        AtNext P outcome →
-        ((next : MachineState) → P next → P (go next).state) → P (after state outcome go).state
-    go_keeps state (Goes next) go h k later = later next k
-    go_keeps state (Traps reason) go h k later = h
+  go_keeps : (pc : ℕ) (state : M) (outcome : OutcomeOf M) (go : M → RunOf M) → P state → AtNext P outcome →
+      ((next : M) → P next → P (go next).state) → P (after pc state outcome go).state
+  go_keeps pc state (Goes next) go h k later = later next k
+  go_keeps pc state (Traps reason) go h k later = h
 
-    pub run_keeps : (steps : ℕ) (state : MachineState) → P state → P (run image inputs events steps state).state
-    unfolding run
-    run_keeps zero state h = stop_keeps (stopped events _) state _ h (λ early. h)
-    run_keeps (suc steps) state h = stop_keeps (stopped events _) state _ h
-        (λ early. go_keeps state _ _ h (each state h early) (run_keeps steps))
+  pub any_run_keeps : (steps : ℕ) (state : M) → P state → P (run_by protection events steps state).state
+  unfolding run_by
+  any_run_keeps zero state h = stop_keeps (early_in protection events state) state _ h (λ early. h)
+  any_run_keeps (suc steps) state h = stop_keeps (early_in protection events state) state _ h
+      (λ early. go_keeps _ state _ _ h (each state h early) (any_run_keeps steps))
+
+pub run_keeps : (image : ImageParts) (inputs : List ℕ) (events : ℕ) (P : MachineState → Type 0) →
+    ((state : MachineState) → P state → stopped events state.trace ≡ None → AtNext P (step image inputs state)) →
+    (steps : ℕ) (state : MachineState) → P state → P (run image inputs events steps state).state
+run_keeps image inputs = any_run_keeps (by_owner image inputs)
 
 -- Stretches of a run, steps by their instruction, and what stands in memory at the start.
 

@@ -5,7 +5,8 @@ use Rattle.sc_image.proofs.Common.{Some, StepsEmit, StepsOut, Stop, StretchesCom
 use Rattle.sc_image.proofs.Common.{append_assoc, arith, code_start, comp_of_code, eq-eqb, export_params, false, gate}
 use Rattle.sc_image.proofs.Common.{if◌then◌else◌, is_end, is_ended, is_some, jump, jump_outside, leaves, length}
 use Rattle.sc_image.proofs.Common.{length-append, list_any, list_any-append, lt-leb, nat_tests, on_call, on_end}
-use Rattle.sc_image.proofs.Common.{on_return, or_from, or_parts, ra, refl, run, start, step, stopped, stops_or, subst}
+use Rattle.sc_image.proofs.Common.{on_return, or_from, or_parts, ra, refl, run, run_by, start, step, stopped, stops_or}
+use Rattle.sc_image.proofs.Common.{subst}
 use Rattle.sc_image.proofs.Common.{suc, suc-add, sym, true, walk, word_at, zero, zero-add, ℕ, ◌%◌, ◌++◌, ◌+◌, ◌<◌, ◌∙◌}
 use Rattle.sc_image.proofs.Common.{◌∷◌, ◌≡◌, ◌≢◌, ◌≤◌}
 use Rattle.sc_image.proofs.Cases.{AtNext, step_of}
@@ -200,7 +201,7 @@ module _ (image : ImageParts) (inputs : List ℕ) (formed : IsWellFormed image) 
   none_by from (Some stop) = refl
 
   none_runs : (events : ℕ) (from : MachineState) → (run image inputs events 0 from).state ≡ from
-  unfolding run
+  unfolding run_by
   none_runs events from = none_by from _
 
   open_run : (events n : ℕ) (from to : MachineState) → OpenWalk n from to → length to.trace < events →

@@ -1,26 +1,26 @@
 -- Parts are well formed exactly where their fields are good and they keep the rules on a whole image: what is read is
 -- an image with these bytes, and what an image is written as is read as it.
-use Rattle.sc_image.proofs.Common.{All, All-from_recursion, AllPairs-from_IsDistinct, AreBytesOf, BadImage}
-use Rattle.sc_image.proofs.Common.{BadOrImage, Bool, BytesNameOneImage, CompPart, Decides, Decides-and}
-use Rattle.sc_image.proofs.Common.{Decides-by_and, Decides-like, Decides-ltb, Decides-not, Err, ExportPart}
-use Rattle.sc_image.proofs.Common.{FitsItsFields, ImageParts, ImportPart, IsByte, IsComp, IsDistinct}
-use Rattle.sc_image.proofs.Common.{IsDistinct-from_AllPairs, IsDistinct-from_count, IsEntry, IsEquivalence, IsImage}
-use Rattle.sc_image.proofs.Common.{IsImport, IsSomeAnd, IsWellFormed, IsWord, List, None, Ok, Option, Result, Some}
-use Rattle.sc_image.proofs.Common.{Whole, WrittenIsRead, [], all_by, and_parts, ap, append-nil, are_distinct_by}
-use Rattle.sc_image.proofs.Common.{arith, bad, bytes_decides, code_in, code_start, codes, comps_keep, cond}
-use Rattle.sc_image.proofs.Common.{distinct_count-from_IsDistinct, eq-eqb, eqb-true, exports_keep, false}
-use Rattle.sc_image.proofs.Common.{false_from_ne_true, flags, get_or_default, get_or_from_slice_get, image_bytes}
-use Rattle.sc_image.proofs.Common.{image_in, imports_keep, is_entry, is_importable, is_same_import, is_same_name}
-use Rattle.sc_image.proofs.Common.{is_some, keeps_rules, latest_version, length, list_all, little_bytes, lit≤, map}
-use Rattle.sc_image.proofs.Common.{mark_at, most_flags, nat_lt, nat_tests, nil_from_length, not, not_from_Decides}
-use Rattle.sc_image.proofs.Common.{option_map_or, parts_at, parts_bytes, read_cause, recursion_from_All, refl}
-use Rattle.sc_image.proofs.Common.{same_from_decides, slice_get, slice_get_within, stretch, subst, suc, sym, true}
-use Rattle.sc_image.proofs.Common.{unsigned_Decides, version_at, word_at, zero, ℕ, ◌&&◌, ◌*◌, ◌++◌, ◌+◌, ◌-◌, ◌/◌}
-use Rattle.sc_image.proofs.Common.{◌<◌, ◌==◌, ◌^◌, ◌∙◌, ◌∷◌, ◌≡◌, ◌≤◌}
-use Rattle.sc_image.proofs.Fields.{IsBytes, bytes_fit, bind_ok, good_ok}
+use Rattle.sc_image.proofs.Common.{All, All-from_recursion, AllPairs-from_IsDistinct, AreBytesOf, BadImage, BadOrImage}
+use Rattle.sc_image.proofs.Common.{Bool, BytesNameOneImage, CompPart, Decides, Decides-and, Decides-by_and}
+use Rattle.sc_image.proofs.Common.{Decides-like, Decides-ltb, Decides-not, Err, ExportPart, FitsItsFields, ImageParts}
+use Rattle.sc_image.proofs.Common.{ImportPart, IsComp, IsDistinct, Mark, IsDistinct-from_AllPairs}
+use Rattle.sc_image.proofs.Common.{IsDistinct-from_count, IsEntry, IsEquivalence, IsImage, IsImport, IsSomeAnd}
+use Rattle.sc_image.proofs.Common.{IsWellFormed, IsWord, List, None, Ok, Option, Result, Some, Whole, WrittenIsRead, []}
+use Rattle.sc_image.proofs.Common.{all_by, and_parts, ap, append-nil, are_distinct_by, arith, bytes_decides, code_in}
+use Rattle.sc_image.proofs.Common.{code_start, codes, comps_keep, cond, distinct_count-from_IsDistinct, eq-eqb}
+use Rattle.sc_image.proofs.Common.{eqb-true, exports_keep, false, false_from_ne_true, flags, get_or_from_slice_get}
+use Rattle.sc_image.proofs.Common.{image_bytes, image_in, imports_keep, is_entry, is_importable, is_same_import}
+use Rattle.sc_image.proofs.Common.{is_same_name, is_some, keeps_rules, latest_version, length, list_all, little_bytes}
+use Rattle.sc_image.proofs.Common.{lit≤, map, mark_at, most_flags, nat_lt, nat_tests, nil_from_length, not}
+use Rattle.sc_image.proofs.Common.{not_from_Decides, option_map_or, parts_at, parts_bytes, read_cause}
+use Rattle.sc_image.proofs.Common.{recursion_from_All, refl, same_from_decides, slice_get, slice_get_within, stretch}
+use Rattle.sc_image.proofs.Common.{subst, suc, sym, true, unsigned_Decides, version_at, word_at, zero, ℕ, ◌&&◌, ◌*◌}
+use Rattle.sc_image.proofs.Common.{◌++◌, ◌+◌, ◌-◌, ◌/◌, ◌<◌, ◌==◌, ◌^◌, ◌∙◌, ◌∷◌, ◌≡◌, ◌≤◌}
+use Rattle.sc_fields.proofs.Compartments.{FitsImport}
+use Rattle.sc_fields.proofs.Fields.{IsBytes, all_bytes, bytes_fit, bind_ok, good_ok}
 use Rattle.sc_image.proofs.Words.{some_is}
-use Rattle.sc_image.proofs.FileFields.{FitsExport, FitsImport, FitsComp, FitsParts, mark_field}
-use Rattle.sc_image.proofs.FileFields.{parts_field, version_field}
+use Rattle.sc_image.proofs.FileFields.{FitsExport, FitsComp, FitsParts, mark_field_of_images, parts_field}
+use Rattle.sc_image.proofs.FileFields.{version_field}
 
 fits : (image : ImageParts) (c : ℕ) (comp : CompPart) → IsComp image c comp → FitsItsFields comp
 fits image c comp h = record {
@@ -45,7 +45,7 @@ equivalence {A} same decides = record {
   congr = λ x y z is. ap (λ w. same w z) ((decides x y).0 is);
 }
 
-distinct_decides : {A : Type 0} (same : A → A → Bool) → ((a b : A) → Decides (same a b) (a ≡ b)) → (xs : List A) →
+pub distinct_decides : {A : Type 0} (same : A → A → Bool) → ((a b : A) → Decides (same a b) (a ≡ b)) → (xs : List A) →
     Decides (are_distinct_by same xs) (IsDistinct xs)
 distinct_decides same decides xs = (
   λ is. AllPairs-from_IsDistinct decides xs (IsDistinct-from_count (equivalence same decides) xs (eqb-true _ _ is)),
@@ -136,9 +136,6 @@ whole_decides image =
 
 -- A compartment.
 
-all_bytes : (bytes : List ℕ) → IsBytes bytes → All IsByte bytes
-all_bytes bytes fits i d within = subst (λ b. b < 2 ^ 8) (get_or_default bytes i 0 d within) (fits i)
-
 comp_is : (image : ImageParts) (version comps c : ℕ) (comp : CompPart) → FitsComp version comps comp →
     Rules image c comp → IsComp image c comp
 comp_is image version comps c comp fits rules = record {
@@ -160,7 +157,7 @@ comp_is image version comps c comp fits rules = record {
 
 -- The whole.
 
-comp_there : (version : ℕ) (image : ImageParts) (c : ℕ) (comp : CompPart) → FitsParts version image →
+pub comp_there : (version : ℕ) (image : ImageParts) (c : ℕ) (comp : CompPart) → FitsParts version image →
     slice_get image.comps c ≡ Some comp → FitsComp version (length image.comps) comp
 comp_there version image c comp fits at =
     subst (FitsComp version _) (get_or_from_slice_get _ c comp comp at)
@@ -201,7 +198,7 @@ has_no_heap comp low = grind (arith, nat_tests)
 no_heap : (version : ℕ) (comp : CompPart) → version ≡ 1 → flags comp ≤ most_flags version → comp.heap ≡ false
 no_heap version comp first low = has_no_heap comp (subst (λ v. flags comp ≤ most_flags v) first low)
 
-flags_fit : (version : ℕ) (comp : CompPart) → (version ≡ 1 → comp.heap ≡ false) → flags comp ≤ most_flags version
+pub flags_fit : (version : ℕ) (comp : CompPart) → (version ≡ 1 → comp.heap ≡ false) → flags comp ≤ most_flags version
 flags_fit version comp plain = grind (arith, nat_tests)
 
 -- in this version the image can be written
@@ -271,7 +268,7 @@ pub is_read : (bytes : List ℕ) (image : ImageParts) → IsBytes bytes → imag
 unfolding image_in
 is_read bytes image fits e =
     let m = bind_ok _ _ image e in
-    let mark = mark_field.takes bytes m.0.0 m.0.1 fits m.1 in
+    let mark = mark_field_of_images.takes bytes m.0.0 m.0.1 fits m.1 in
     let v = bind_ok _ _ image m.2 in
     let version = version_field.takes m.0.1 v.0.0 v.0.1 mark.0.rest_fits v.1 in
     let a = bind_ok _ _ image v.2 in
@@ -296,10 +293,11 @@ is_read bytes image fits e =
     )
 
 pub parts_are_few : (bytes marked versioned rest : List ℕ) (mark : List ℕ) (version : ℕ) (parts : ImageParts) →
-    IsBytes bytes → mark_at bytes ≡ Ok (mark, marked) → version_at marked ≡ Ok (version, versioned) →
+    IsBytes bytes → mark_at Mark (codes "SCIM") bytes ≡ Ok (mark, marked) →
+    version_at marked ≡ Ok (version, versioned) →
     parts_at version versioned ≡ Ok (parts, rest) → length parts.comps ≤ 32
 parts_are_few bytes marked versioned rest mark version parts fits first second third =
-    let after_mark = (mark_field.takes bytes mark marked fits first).0.rest_fits in
+    let after_mark = (mark_field_of_images.takes bytes mark marked fits first).0.rest_fits in
     let after_version = (version_field.takes marked version versioned after_mark second).0.rest_fits in
     ((parts_field version).takes versioned parts rest after_version third).1.few
 
@@ -308,7 +306,7 @@ pub is_read_again : (image : ImageParts) (bytes : List ℕ) → IsWellFormed ima
     image_in bytes ≡ Ok image
 unfolding image_in
 is_read_again image bytes formed are =
-    let mark = mark_field.again (codes "SCIM") (little_bytes 2 are.version ++ parts_bytes image) refl in
+    let mark = mark_field_of_images.again (codes "SCIM") (little_bytes 2 are.version ++ parts_bytes image) refl in
     let version = version_field.again are.version (parts_bytes image) (are.some, are.known) in
     let parts = ap (parts_at are.version) (sym (append-nil (parts_bytes image))) ∙
     (parts_field are.version).again image [] (parts_fit are.version image formed are.without_heap) in

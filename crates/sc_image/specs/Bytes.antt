@@ -1,17 +1,10 @@
 -- The bytes of an image. Numbers are little-endian.
 use Rattle.sc_image.specs.Common.{little_bytes}
-use Rattle.std.specs.Prelude.{ℕ, ◌+◌, ◌*◌, ◌^◌, ◌<◌, Bool, List, ◌∷◌, ◌++◌, length, flat_map, codes, if◌then◌else◌}
+use Rattle.sc_fields.specs.Prelude.{bit, code_bytes, globals_bytes, imports_bytes, name_bytes}
+use Rattle.std.specs.Prelude.{ℕ, ◌+◌, ◌*◌, ◌^◌, ◌<◌, List, ◌∷◌, ◌++◌, length, flat_map, codes}
 use Rattle.sc_image.specs.declared.parts.ImageParts.{ImageParts}
 use Rattle.sc_image.specs.declared.parts.CompPart.{CompPart}
 use Rattle.sc_image.specs.declared.parts.ExportPart.{ExportPart}
-use Rattle.sc_image.specs.declared.parts.ImportPart.{ImportPart}
-
-abbrev pub bit : Bool → ℕ
-bit b = if b then 1 else 0
-
--- a name, after its length in one byte
-abbrev pub name_bytes : List ℕ → List ℕ
-name_bytes name = length name ∷ name
 
 -- what a compartment may call of the environment: bit 0 is `input`, bit 1 is `output`; and bit 2 is its heap
 abbrev pub flags : CompPart → ℕ
@@ -20,21 +13,8 @@ flags comp = bit comp.input + 2 * bit comp.output + 4 * bit comp.heap
 abbrev pub export_bytes : ExportPart → List ℕ
 export_bytes export = name_bytes export.name ++ export.params ∷ bit export.result ∷ little_bytes 4 export.entry
 
-abbrev pub import_bytes : ImportPart → List ℕ
-import_bytes import = import.comp ∷ little_bytes 2 import.index
-
 abbrev pub exports_bytes : List ExportPart → List ℕ
 exports_bytes exports = little_bytes 2 (length exports) ++ flat_map export_bytes exports
-
-abbrev pub imports_bytes : List ImportPart → List ℕ
-imports_bytes imports = little_bytes 2 (length imports) ++ flat_map import_bytes imports
-
--- the length in bytes, and then the words
-abbrev pub code_bytes : List ℕ → List ℕ
-code_bytes code = little_bytes 4 (4 * length code) ++ flat_map (little_bytes 4) code
-
-abbrev pub globals_bytes : List ℕ → List ℕ
-globals_bytes globals = little_bytes 4 (length globals) ++ globals
 
 abbrev pub comp_bytes : CompPart → List ℕ
 comp_bytes comp =

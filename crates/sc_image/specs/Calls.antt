@@ -5,7 +5,7 @@ use Rattle.std.specs.List.{list_any}
 use Rattle.std.specs.Option.{option_map_or}
 use Rattle.sc_image.specs.declared.parts.ImageParts.{ImageParts}
 use Rattle.sc_image.specs.declared.parts.ExportPart.{ExportPart}
-use Rattle.sc_image.specs.declared.parts.ImportPart.{ImportPart}
+use Rattle.sc_fields.specs.declared.import.ImportPart.{ImportPart}
 
 -- the functions that compartment c offers, and those that it may call: none where the image has no such compartment
 abbrev pub exported_by : ImageParts → ℕ → List ExportPart

@@ -23,6 +23,7 @@ pub use Rattle.rv_code.specs.declared.instr.OpImmOp.{OpImmOp}
 pub use Rattle.rv_code.specs.declared.instr.OpOp.{OpOp}
 pub use Rattle.rv_code.specs.declared.instr.ShiftOp.{ShiftOp}
 pub use Rattle.rv_code.specs.declared.instr.StoreOp.{StoreOp}
+pub use Rattle.rv_code.specs.declared.instr.UpperOp.{UpperOp}
 pub use Rattle.rv_code.specs.declared.instr.UpperOp.TheVariants.{Auipc, Lui}
 pub use Rattle.sc_store.specs.Prelude.{HoldsBytes, ByteMemory, is_in, load_of, with_bytes}
 pub use Rattle.sc_store.specs.declared.region.Region.{Region}

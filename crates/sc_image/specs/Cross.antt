@@ -40,26 +40,35 @@ cleared_for_return result regs = kept (is_result result) regs
 abbrev pub arguments : (params : ℕ) → List ℕ → List ℕ
 arguments params regs = take params (drop a0 regs)
 
--- a call of the export of that index of compartment `to`, which takes `params` words and begins at `entry`
-abbrev pub on_call : MachineState → (to index params entry : ℕ) → MachineState
-on_call state to index params entry = record {
+-- what is kept of a call of the export of that index of compartment `to`, until it returns
+abbrev pub crossing_to : MachineState → (to index : ℕ) → Crossing
+crossing_to state to index = record {
+  caller = state.active;
+  pc = state.pc + 4;
+  sp = reg state sp;
+  callee = to;
+  entry = Export index;
+  saved = saved_sp state to;
+}
+
+-- a call of that export, which takes `params` words and begins at `entry`: all but what is kept of it
+abbrev pub on_entry : MachineState → (to index params entry : ℕ) → MachineState
+on_entry state to index params entry = record {
   regs = written (written (cleared_for_call params state.regs) ra gate) sp (saved_sp state to);
   pc = entry;
   active = to;
   saved = slice_set state.saved state.active (reg state sp);
   zones = state.zones;
   memory = state.memory;
-  cross =
-      record {
-        caller = state.active;
-        pc = state.pc + 4;
-        sp = reg state sp;
-        callee = to;
-        entry = Export index;
-        saved = saved_sp state to;
-      } ∷ state.cross;
+  cross = state.cross;
   input = state.input;
   trace = state.trace ++ Call state.active to index (arguments params state.regs) ∷ [];
+}
+
+-- the call
+abbrev pub on_call : MachineState → (to index params entry : ℕ) → MachineState
+on_call state to index params entry = record (on_entry state to index params entry) {
+  cross = crossing_to state to index ∷ state.cross;
 }
 
 -- what a function gives back, where it has a result

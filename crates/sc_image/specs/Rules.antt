@@ -4,19 +4,16 @@ use Rattle.std.specs.Prelude.{is_some}
 use Rattle.std.specs.Option.{option_map_or}
 use Rattle.std.specs.List.{list_all}
 use Rattle.std.specs.Set.{distinct_count}
-use Rattle.std.specs.Cmp.Lexicographic.{pointwise}
+pub use Rattle.sc_fields.specs.Prelude.{is_same_name}
 use Rattle.sc_image.specs.declared.parts.ImageParts.{ImageParts}
 use Rattle.sc_image.specs.declared.parts.CompPart.{CompPart}
 use Rattle.sc_image.specs.declared.parts.ExportPart.{ExportPart}
-use Rattle.sc_image.specs.declared.parts.ImportPart.{ImportPart}
+use Rattle.sc_fields.specs.declared.import.ImportPart.{ImportPart}
 use Rattle.sc_image.specs.Layout.{word_at}
 
 -- no two are the same: they count as many where the same ones count once
 abbrev pub are_distinct_by : {A : Type 0} → (A → A → Bool) → List A → Bool
 are_distinct_by same xs = distinct_count same xs == length xs
-
-abbrev pub is_same_name : List ℕ → List ℕ → Bool
-is_same_name a b = pointwise ◌==◌ a b
 
 abbrev pub is_same_import : ImportPart → ImportPart → Bool
 is_same_import a b = a.comp == b.comp && a.index == b.index

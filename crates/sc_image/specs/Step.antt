@@ -2,7 +2,8 @@
 use Rattle.sc_image.specs.Common.{Auipc, BadCall, BadFree, BadJump, Branch, BranchOp, Breakpoint, Ebreak, Ecall, Fence}
 use Rattle.sc_image.specs.Common.{Illegal}
 use Rattle.sc_image.specs.Common.{Instr, Jal, Jalr, Load, LoadOp, Lui, Misaligned, NoImport, Op, OpImm, OpImmOp, OpOp}
-use Rattle.sc_image.specs.Common.{Owner, Shift, ShiftOp, Store, StoreOp, TrapReason, Upper, add_word, decoded, div_word}
+use Rattle.sc_image.specs.Common.{Owner, Shift, ShiftOp, Store, StoreOp, TrapReason, Upper, UpperOp, add_word, decoded}
+use Rattle.sc_image.specs.Common.{div_word}
 use Rattle.sc_image.specs.Common.{divu_word, load_of, mul_word, mulh_word, mulhsu_word, mulhu_word, rem_word, remu_word}
 use Rattle.sc_image.specs.Common.{signed, signed_of, sll_word, slt_word, sltu_word, sra_word, srl_word, with_bytes}
 use Rattle.sc_image.specs.Common.{sub_word, word_of}
@@ -22,17 +23,37 @@ use Rattle.sc_image.specs.State.{MachineState, ra, a0, a1, a7, reg, with_reg, wi
 use Rattle.sc_image.specs.Cross.{on_alloc, on_call, on_free, on_input, on_output, on_return, starts_block}
 
 -- the state after a step, or the reason why there is no step
-pub data Outcome : Type 0 where
-  Goes : (state : MachineState) → Outcome
-  Traps : (reason : TrapReason) → Outcome
+pub data OutcomeOf (M : Type 0) : Type 0 where
+  Goes : (state : M) → OutcomeOf M
+  Traps : (reason : TrapReason) → OutcomeOf M
 
--- on to the next instruction: code lies below 2 ^ 26, so this doesn't wrap
+-- where a machine's whole state is a `MachineState`
+abbrev pub Outcome : Type 0
+Outcome = OutcomeOf MachineState
+
+-- A machine's whole state M may hold more than a `MachineState`: how that part is seen, and how it is changed.
+pub record Carrier (M : Type 0) : Type 0 where
+  pub seen : M → MachineState
+  pub changed : M → MachineState → M
+
+-- where it holds nothing more
+abbrev pub plain : Carrier MachineState
+plain = record { seen = λ state. state; changed = λ state next. next }
+
+-- on to the next instruction, with that part as the instruction leaves it: code lies below 2 ^ 26, so the pc doesn't
+-- wrap
+abbrev pub next_by : {M : Type 0} → Carrier M → M → (left : MachineState) → OutcomeOf M
+next_by carrier state left = Goes (carrier.changed state (with_pc left (left.pc + 4)))
+
 abbrev pub next : MachineState → Outcome
-next state = Goes (with_pc state (state.pc + 4))
+next state = next_by plain state state
 
 -- on to the next instruction, with a word in rd
+abbrev pub gives_by : {M : Type 0} → Carrier M → M → (rd word : ℕ) → OutcomeOf M
+gives_by carrier state rd word = next_by carrier state (with_reg (carrier.seen state) rd word)
+
 abbrev pub gives : MachineState → (rd word : ℕ) → Outcome
-gives state rd word = next (with_reg state rd word)
+gives = gives_by plain
 
 -- Arithmetic.
 
@@ -56,6 +77,11 @@ op_result Div = div_word
 op_result Divu = divu_word
 op_result Rem = rem_word
 op_result Remu = remu_word
+
+-- what LUI gives, and what AUIPC does
+abbrev pub upper_result : UpperOp → (pc imm : ℕ) → ℕ
+upper_result Lui pc imm = imm
+upper_result Auipc pc imm = add_word pc imm
 
 -- an operation on an immediate computes what this one computes from the immediate's word
 abbrev pub on_registers : OpImmOp → OpOp
@@ -109,7 +135,7 @@ refused_by allowed size address =
     else if not allowed then Some Owner
     else None
 
-abbrev pub unless_trap : Option TrapReason → Outcome → Outcome
+abbrev pub unless_trap : {M : Type 0} → Option TrapReason → OutcomeOf M → OutcomeOf M
 unless_trap None outcome = outcome
 unless_trap (Some reason) outcome = Traps reason
 
@@ -117,25 +143,27 @@ unless_trap (Some reason) outcome = Traps reason
 abbrev pub word_loaded : MachineState → LoadOp → (address : ℕ) → ℕ
 word_loaded state op address = extended op (load_of state.memory address (load_size op))
 
-abbrev pub load_by : (allowed : Bool) → MachineState → LoadOp → (rd address : ℕ) → Outcome
-load_by allowed state op rd address = unless_trap (refused_by allowed (load_size op) address)
-    (gives state rd (word_loaded state op address))
+abbrev pub load_by : {M : Type 0} → Carrier M → (allowed : Bool) → M → LoadOp → (rd address : ℕ) → OutcomeOf M
+load_by carrier allowed state op rd address = unless_trap (refused_by allowed (load_size op) address)
+    (gives_by carrier state rd (word_loaded (carrier.seen state) op address))
 
 -- the state with the lowest bytes of a word at an address
 abbrev pub with_stored : MachineState → StoreOp → (address word : ℕ) → MachineState
 with_stored state op address word = record state { memory = with_bytes state.memory address (store_size op) word }
 
-abbrev pub store_by : (allowed : Bool) → MachineState → StoreOp → (address word : ℕ) → Outcome
-store_by allowed state op address word = unless_trap (refused_by allowed (store_size op) address)
-    (next (with_stored state op address word))
+abbrev pub store_by : {M : Type 0} → Carrier M → (allowed : Bool) → M → StoreOp → (address word : ℕ) → OutcomeOf M
+store_by carrier allowed state op address word = unless_trap (refused_by allowed (store_size op) address)
+    (next_by carrier state (with_stored (carrier.seen state) op address word))
 
 -- Jumps.
 
 -- to a place in the own code, with the address of the next instruction in rd; what comes of any other target is given
-abbrev pub jump_by : (in_code : Bool) → MachineState → (rd target : ℕ) → (elsewhere : Outcome) → Outcome
-jump_by in_code state rd target elsewhere =
+abbrev pub jump_by : {M : Type 0} → Carrier M → (in_code : Bool) → M → (rd target : ℕ) → (elsewhere : OutcomeOf M) →
+    OutcomeOf M
+jump_by carrier in_code state rd target elsewhere =
+    let seen = carrier.seen state in
     if not (target % 4 == 0) then Traps Misaligned
-    else if in_code then Goes (with_pc (with_reg state rd (state.pc + 4)) target)
+    else if in_code then Goes (carrier.changed state (with_pc (with_reg seen rd (seen.pc + 4)) target))
     else elsewhere
 
 -- the target of JALR: bit 0 of the sum is cleared
@@ -144,59 +172,76 @@ jalr_target base imm = add_word base (word_of imm) / 2 * 2
 
 -- One instruction, by what a machine says of addresses: machines differ in nothing else.
 
-pub record Protection : Type 0 where
-  -- the word that compartment c may execute at an address
-  pub fetched : (c address : ℕ) → Option ℕ
-  -- whether c may load the `size` bytes from an address on, or store there
-  pub may_load : (c address size : ℕ) → Bool
-  pub may_store : (c address size : ℕ) → Bool
+pub record Protection (M : Type 0) : Type 0 where
+  pub carrier : Carrier M
+  -- the word that may be executed at an address
+  pub fetched : M → (address : ℕ) → Option ℕ
+  -- whether the `size` bytes from an address on may be loaded, or stored to
+  pub may_load : M → (address size : ℕ) → Bool
+  pub may_store : M → (address size : ℕ) → Bool
   -- where a jump leads whose target is out of the own code: of JAL, and of JALR
-  pub jal_leaves : MachineState → (rd target : ℕ) → Outcome
-  pub jalr_leaves : MachineState → (rd target : ℕ) → Outcome
+  pub jal_leaves : M → (rd target : ℕ) → OutcomeOf M
+  pub jalr_leaves : M → (rd target : ℕ) → OutcomeOf M
   -- what a call of the environment does
-  pub environment : MachineState → Outcome
+  pub environment : M → OutcomeOf M
 
-module _ (protection : Protection) where
-  abbrev jump_in : MachineState → (rd target : ℕ) → (elsewhere : Outcome) → Outcome
-  jump_in state rd target elsewhere = jump_by (is_some
-      (protection.fetched state.active target)) state rd target elsewhere
+module _ {M : Type 0} (protection : Protection M) where
+  abbrev jump_in : M → (rd target : ℕ) → (elsewhere : OutcomeOf M) → OutcomeOf M
+  jump_in state rd target elsewhere = jump_by protection.carrier (is_some
+      (protection.fetched state target)) state rd target elsewhere
 
-  unfoldable pub execute_by : MachineState → Instr → Outcome
-  execute_by state (Upper Lui rd imm) = gives state rd imm
-  execute_by state (Upper Auipc rd imm) = gives state rd (add_word state.pc imm)
+  abbrev word_in : M → (r : ℕ) → ℕ
+  word_in state r = reg (protection.carrier.seen state) r
+
+  abbrev pc_in : M → ℕ
+  pc_in state = (protection.carrier.seen state).pc
+
+  abbrev gives_in : M → (rd word : ℕ) → OutcomeOf M
+  gives_in = gives_by protection.carrier
+
+  abbrev next_in : M → OutcomeOf M
+  next_in state = next_by protection.carrier state (protection.carrier.seen state)
+
+  unfoldable pub execute_by : M → Instr → OutcomeOf M
+  execute_by state (Upper op rd imm) = gives_in state rd (upper_result op (pc_in state) imm)
   execute_by state (Jal rd imm) =
-      let target = add_word state.pc (word_of imm) in jump_in state rd target (protection.jal_leaves state rd target)
+      let target = add_word (pc_in state) (word_of imm) in
+      jump_in state rd target (protection.jal_leaves state rd target)
   execute_by state (Jalr rd rs1 imm) =
-      let target = jalr_target (reg state rs1) imm in jump_in state rd target (protection.jalr_leaves state rd target)
+      let target = jalr_target (word_in state rs1) imm in
+      jump_in state rd target (protection.jalr_leaves state rd target)
   execute_by state (Branch op rs1 rs2 imm) =
-      if compares op (reg state rs1) (reg state rs2) then
-      jump_in state 0 (add_word state.pc (word_of imm)) (Traps BadJump) else next state
+      if compares op (word_in state rs1) (word_in state rs2) then
+      jump_in state 0 (add_word (pc_in state) (word_of imm)) (Traps BadJump) else next_in state
   execute_by state (Load op rd rs1 imm) =
-      let address = add_word (reg state rs1) (word_of imm) in
-      load_by (protection.may_load state.active address (load_size op)) state op rd address
+      let address = add_word (word_in state rs1) (word_of imm) in
+      load_by protection.carrier (protection.may_load state address (load_size op)) state op rd address
   execute_by state (Store op rs1 rs2 imm) =
-      let address = add_word (reg state rs1) (word_of imm) in
-      store_by (protection.may_store state.active address (store_size op)) state op address (reg state rs2)
-  execute_by state (OpImm op rd rs1 imm) = gives state rd (op_result (on_registers op) (reg state rs1) (word_of imm))
-  execute_by state (Shift op rd rs1 amount) = gives state rd (op_result (shift_on_registers op) (reg state rs1) amount)
-  execute_by state (Op op rd rs1 rs2) = gives state rd (op_result op (reg state rs1) (reg state rs2))
-  execute_by state (Fence _ _ _) = next state
+      let address = add_word (word_in state rs1) (word_of imm) in
+      let allowed = protection.may_store state address (store_size op) in
+      store_by protection.carrier allowed state op address (word_in state rs2)
+  execute_by state (OpImm op rd rs1 imm) =
+      gives_in state rd (op_result (on_registers op) (word_in state rs1) (word_of imm))
+  execute_by state (Shift op rd rs1 amount) =
+      gives_in state rd (op_result (shift_on_registers op) (word_in state rs1) amount)
+  execute_by state (Op op rd rs1 rs2) = gives_in state rd (op_result op (word_in state rs1) (word_in state rs2))
+  execute_by state (Fence _ _ _) = next_in state
   execute_by state Ecall = protection.environment state
   execute_by state Ebreak = Traps Breakpoint
 
   -- the word of an instruction, if it is one
-  abbrev pub if_decoded : MachineState → Option Instr → Outcome
+  abbrev pub if_decoded : M → Option Instr → OutcomeOf M
   if_decoded state None = Traps Illegal
   if_decoded state (Some instr) = execute_by state instr
 
   -- a word of the own code, if pc is at one
-  abbrev pub if_fetched : MachineState → Option ℕ → Outcome
+  abbrev pub if_fetched : M → Option ℕ → OutcomeOf M
   if_fetched state None = Traps BadJump
   if_fetched state (Some word) = if_decoded state (decoded word)
 
   -- the instruction at pc
-  unfoldable pub step_by : MachineState → Outcome
-  step_by state = if_fetched state (protection.fetched state.active state.pc)
+  unfoldable pub step_by : M → OutcomeOf M
+  step_by state = if_fetched state (protection.fetched state (pc_in state))
 
 -- The machine of an image, by who owns an address: a compartment executes its own code, and loads and stores in its own
 -- data.
@@ -205,13 +250,15 @@ abbrev pub refused : ImageParts → (c size address : ℕ) → Option TrapReason
 refused image c size address = refused_by (are_data image c address size) size address
 
 abbrev pub load : ImageParts → MachineState → LoadOp → (rd address : ℕ) → Outcome
-load image state op rd address = load_by (are_data image state.active address (load_size op)) state op rd address
+load image state op rd address = load_by plain (are_data image state.active address (load_size op)) state op rd address
 
 abbrev pub store : ImageParts → MachineState → StoreOp → (address word : ℕ) → Outcome
-store image state op address word = store_by (are_data image state.active address (store_size op)) state op address word
+store image state op address word =
+    store_by plain (are_data image state.active address (store_size op)) state op address word
 
 abbrev pub jump : ImageParts → MachineState → (rd target : ℕ) → (elsewhere : Outcome) → Outcome
-jump image state rd target elsewhere = jump_by (is_some (word_at image state.active target)) state rd target elsewhere
+jump image state rd target elsewhere =
+    jump_by plain (is_some (word_at image state.active target)) state rd target elsewhere
 
 -- to where an export of another compartment begins, which is a call of it: the export's index is given, or that there
 -- is none
@@ -255,11 +302,12 @@ environment_call image inputs state =
     else if nat_eq (reg state a7) 4 then frees state (reg state a0)
     else Traps BadCall
 
-abbrev pub by_owner : ImageParts → List ℕ → Protection
+abbrev pub by_owner : ImageParts → List ℕ → Protection MachineState
 by_owner image inputs = record {
-  fetched = word_at image;
-  may_load = are_data image;
-  may_store = are_data image;
+  carrier = plain;
+  fetched = λ state. word_at image state.active;
+  may_load = λ state. are_data image state.active;
+  may_store = λ state. are_data image state.active;
   jal_leaves = jump_outside image;
   jalr_leaves = leaves image;
   environment = environment_call image inputs;

@@ -1,11 +1,9 @@
 //! Why bytes are not read as an image.
 
 ghost use Rattle.std.specs.Prelude.{◌≡◌};
-ghost use Rattle.sc_image.specs.Reading.{cause_number};
-ghost use Rattle.sc_image.specs.declared.fault.ImageFault.TheVariants.{OutOfMemory};
+ghost use Rattle.sc_image.specs.Reading.{cause_number, image_fault};
 
-use sc_base::OutOfMemory;
-use std::alloc::AllocError;
+use sc_fields::FieldFault;
 use thiserror::Error;
 
 /// The first thing that is wrong with the bytes, in the order of the file.
@@ -68,18 +66,13 @@ pub enum ImageFault {
     OutOfMemory,
 }
 
-impl From<OutOfMemory> for ImageFault {
-    ghost from_gives = { λ _ e. e ≡ OutOfMemory };
+impl From<FieldFault<BadImage>> for ImageFault {
+    ghost from_gives = { λ fault e. e ≡ image_fault fault };
 
-    fn from(_: OutOfMemory) -> ImageFault {
-        ImageFault::OutOfMemory
-    }
-}
-
-impl From<AllocError> for ImageFault {
-    ghost from_gives = { λ _ e. e ≡ OutOfMemory };
-
-    fn from(_: AllocError) -> ImageFault {
-        ImageFault::OutOfMemory
+    fn from(fault: FieldFault<BadImage>) -> ImageFault {
+        match fault {
+            FieldFault::Bad(cause) => ImageFault::Bad(cause),
+            FieldFault::OutOfMemory => ImageFault::OutOfMemory,
+        }
     }
 }

@@ -20,8 +20,8 @@ pub use laws::{
     runs_are_steady, steps_by_instruction, steps_emit, stretches_compose, traces_are_legal,
     written_is_read,
 };
-pub use parts::{
-    CompPart, CompParts, ExportPart, ExportParts, ImageParts, ImportPart, ImportParts,
-};
+pub use parts::{CompPart, CompParts, ExportPart, ExportParts, ImageParts};
 pub use reading::read_image;
+pub use rules::are_distinct_imports;
+pub use sc_fields::{ImportPart, ImportParts};
 pub use writing::write_image;

@@ -1,5 +1,6 @@
 use sc_base::{Name, Text, Words};
 use sc_event::CompId;
+use sc_fields::ImportParts;
 use sqlite_items::Items;
 
 /// The compartments of an image, in the order of their numbers. Contracts see the list.
@@ -7,9 +8,6 @@ pub type CompParts = Items<CompPart>;
 
 /// The functions that a compartment offers, in the order of their indexes. Contracts see the list.
 pub type ExportParts = Items<ExportPart>;
-
-/// The functions of others that a compartment may call. Contracts see the list.
-pub type ImportParts = Items<ImportPart>;
 
 /// What an image is made of.
 #[derive(Drop)]
@@ -49,11 +47,4 @@ pub struct ExportPart {
     pub result: bool,
     /// The address of its first instruction.
     pub entry: u32,
-}
-
-/// A function that a compartment may call: the export of that index of that compartment.
-#[derive(Clone, Copy, Debug, PartialEq, Eq)]
-pub struct ImportPart {
-    pub comp: CompId,
-    pub index: u16,
 }

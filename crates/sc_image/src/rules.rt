@@ -165,8 +165,9 @@ fn entries_of(alloc: Global, exports: &[ExportPart]) -> Result<HashSet<u32>, All
     exports.iter().map(|export| export.entry).collect(alloc)
 }
 
+/// Whether no import stands there twice.
 #[tactic(auto, using(crate::proofs::Keeping::counted))]
-fn are_distinct_imports(alloc: Global, imports: &[ImportPart]) -> Result<bool, AllocError>
+pub fn are_distinct_imports(alloc: Global, imports: &[ImportPart]) -> Result<bool, AllocError>
     ensures { IfOk result (λ distinct. distinct ≡ are_distinct_by is_same_import imports.now) }
 {
     let pairs = pairs_of(alloc, imports)?;

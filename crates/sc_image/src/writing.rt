@@ -1,12 +1,10 @@
-ghost use Rattle.sc_image.specs.Prelude.{FitsItsFields, code_bytes, comp_bytes, export_bytes, exports_bytes, flags};
-ghost use Rattle.sc_image.specs.Prelude.{globals_bytes, image_bytes, import_bytes, imports_bytes, name_bytes};
-ghost use Rattle.std.specs.Prelude.{◌≡◌, ◌*◌, ◌^◌, ◌<◌, ◌++◌, length, flat_map, All, IfOk, OnOk};
-ghost use Rattle.byteorder.specs.Endian.{little_bytes};
+ghost use Rattle.sc_image.specs.Prelude.{FitsItsFields, comp_bytes, export_bytes, exports_bytes, flags, image_bytes};
+ghost use Rattle.std.specs.Prelude.{◌≡◌, ◌^◌, ◌<◌, ◌++◌, length, flat_map, All, IfOk, OnOk};
 
 use crate::image::LATEST_VERSION;
-use crate::{CompPart, ExportPart, Image, ImportPart};
-use byteorder::{ByteOrder, LittleEndian};
-use sc_base::{Name, OutOfMemory, Text};
+use crate::{CompPart, ExportPart, Image};
+use sc_base::{OutOfMemory, Text};
+use sc_fields::{append_code, append_globals, append_imports, append_name, append_u16, append_u32};
 use std::alloc::Global;
 
 /// The bytes of the image.
@@ -71,67 +69,4 @@ fn append_export(text: &mut Text, export: &ExportPart) -> Result<(), OutOfMemory
     text.push(export.params)?;
     text.push(u8::from(export.result))?;
     append_u32(text, export.entry)
-}
-
-fn append_imports(text: &mut Text, imports: &[ImportPart]) -> Result<(), OutOfMemory>
-    requires { length imports.now < 2 ^ 16 }
-    ensures { OnOk result (text.new ≡ text.old ++ imports_bytes imports.now) }
-{
-    append_u16(text, imports.len() as u16)?;
-    for import in imports {
-        append_import(text, import)?;
-    }
-    Ok(())
-}
-
-fn append_import(text: &mut Text, import: &ImportPart) -> Result<(), OutOfMemory>
-    ensures { OnOk result (text.new ≡ text.old ++ import_bytes import.now) }
-{
-    text.push(import.comp.number())?;
-    append_u16(text, import.index)
-}
-
-fn append_code(text: &mut Text, code: &[u32]) -> Result<(), OutOfMemory>
-    requires { 4 * length code.now < 2 ^ 32 }
-    ensures { OnOk result (text.new ≡ text.old ++ code_bytes code.now) }
-{
-    append_u32(text, 4 * code.len() as u32)?;
-    for word in code {
-        append_u32(text, *word)?;
-    }
-    Ok(())
-}
-
-fn append_globals(text: &mut Text, globals: &[u8]) -> Result<(), OutOfMemory>
-    requires { length globals.now < 2 ^ 32 }
-    ensures { OnOk result (text.new ≡ text.old ++ globals_bytes globals.now) }
-{
-    append_u32(text, globals.len() as u32)?;
-    text.append(globals)
-}
-
-// The name, after its length.
-#[tactic(auto, using(sc_base::proofs::Filled::name_is_short))]
-fn append_name(text: &mut Text, name: &Name) -> Result<(), OutOfMemory>
-    ensures { OnOk result (text.new ≡ text.old ++ name_bytes name.now) }
-{
-    let bytes = name.as_bytes();
-    text.push(bytes.len() as u8)?;
-    text.append(bytes)
-}
-
-fn append_u16(text: &mut Text, number: u16) -> Result<(), OutOfMemory>
-    ensures { OnOk result (text.new ≡ text.old ++ little_bytes 2 number) }
-{
-    let mut bytes = [0; 2];
-    LittleEndian::write_u16(&mut bytes, number);
-    text.append(&bytes)
-}
-
-fn append_u32(text: &mut Text, number: u32) -> Result<(), OutOfMemory>
-    ensures { OnOk result (text.new ≡ text.old ++ little_bytes 4 number) }
-{
-    let mut bytes = [0; 4];
-    LittleEndian::write_u32(&mut bytes, number);
-    text.append(&bytes)
 }

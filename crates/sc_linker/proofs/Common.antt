@@ -51,7 +51,7 @@ pub use Rattle.sc_image.specs.Prelude.{stretch}
 unfoldable pub use Rattle.sc_image.specs.Prelude.{word_at}
 pub use Rattle.sc_image.specs.declared.parts.CompPart.{CompPart}
 pub use Rattle.sc_image.specs.declared.parts.ExportPart.{ExportPart}
-pub use Rattle.sc_image.specs.declared.parts.ImportPart.{ImportPart}
+pub use Rattle.sc_image.specs.Prelude.{ImportPart}
 pub use Rattle.sc_tac.specs.declared.machine_code.Relocation.{Relocation}
 pub use Rattle.sc_tac.specs.declared.machine_code.Target.{Target}
 pub use Rattle.sc_tac.specs.declared.machine_code.Target.TheVariants.{Entry, Function, Global}

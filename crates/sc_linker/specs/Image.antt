@@ -12,7 +12,7 @@ use Rattle.sc_event.specs.declared.interface.Interfaces.{Interfaces}
 use Rattle.sc_core.specs.declared.value.Cell.TheVariants as cell
 use Rattle.sc_image.specs.declared.parts.CompPart.{CompPart}
 use Rattle.sc_image.specs.declared.parts.ExportPart.{ExportPart}
-use Rattle.sc_image.specs.declared.parts.ImportPart.{ImportPart}
+use Rattle.sc_image.specs.Prelude.{ImportPart}
 use Rattle.sc_linker.specs.Layout.{addresses_at, codes_at, entry_address, exports_at, exports_in, section_addresses}
 use Rattle.sc_linker.specs.Layout.{section_at}
 

@@ -5,13 +5,12 @@ pub use Rattle.std.proofs.Common.{replicate, rules, slice_get, subst, suc, sym, 
 pub use Rattle.std.proofs.Common.{zero, ◌*◌, ◌+◌, ◌-◌, ◌<◌, ◌==◌, ◌^◌, ◌||◌, ◌∙◌, ◌∷◌, ◌≡◌, ◌≤◌, ◌⊎◌}
 pub use Rattle.std.specs.List.{filter, list_any, range_with_len}
 pub use Rattle.std.specs.Option.{option_map, unwrap_or}
-pub use Rattle.sc_tac.specs.Prelude.{AreIntervals, Lives, Point, TempSet, Span, Trail, ahead_at, from_here}
-pub use Rattle.sc_tac.specs.Prelude.{function_points}
-pub use Rattle.sc_tac.specs.Prelude.{has_call, if_calls, in_body, in_head, in_next, interval_of, is_one, is_used}
-pub use Rattle.sc_tac.specs.Prelude.{live_across, live_at_start, live_before, loop_points, nothing, nothing_live}
-pub use Rattle.sc_tac.specs.Prelude.{one_or_none, or_first, part_lives, plain_points, point, points, readings}
-pub use Rattle.sc_tac.specs.Prelude.{row_first, row_points, span_from, stmt_points, stmt_weight, trail, trail_step}
-pub use Rattle.sc_tac.specs.Prelude.{weight}
+pub use Rattle.sc_tac.specs.Prelude.{AreIntervals, Lives, Point, Span, TempSet, Trail, ahead_at, as_interval, from_here}
+pub use Rattle.sc_tac.specs.Prelude.{function_points, has_call, if_calls, in_body, in_head, in_next, interval_of}
+pub use Rattle.sc_tac.specs.Prelude.{is_one, is_used, live_across, live_at_start, live_before, loop_points, nothing}
+pub use Rattle.sc_tac.specs.Prelude.{nothing_live, one_or_none, part_lives, plain_points, point, point_behind, points}
+pub use Rattle.sc_tac.specs.Prelude.{readings, row_first, row_points, span_from, stmt_points, stmt_weight, trail}
+pub use Rattle.sc_tac.specs.Prelude.{trail_step, weight}
 pub use Rattle.sc_tac.specs.declared.stmt.TacStmt.{TacStmt, TacStmt-F, fold-roll-TacStmt, map-TacStmt, roll-TacStmt}
 pub use Rattle.sc_live.specs.Marks.{is_met, mark_from, mark_here, mark_of, mark_to, marked, nearest_call, set_of}
 pub use Rattle.sc_live.specs.Walks.{Holds, Passed, Walked, WalkedAll, WalkedOver, interval_at, live_first, lives_at}

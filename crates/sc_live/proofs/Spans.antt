@@ -1,10 +1,10 @@
 -- Marks among all points of a function give its intervals.
 use Rattle.sc_live.proofs.Common.{AreIntervals, Bool, Holds, List, Mark, None, Option, Point, Some, Span, Walk, [], ap}
-use Rattle.sc_live.proofs.Common.{arith, drop, false, from_here, has_call, if◌then◌else◌, inl, inr, interval_at}
-use Rattle.sc_live.proofs.Common.{interval_of, is_met, is_used, leb, length, list_any, map, mark_from, mark_here}
-use Rattle.sc_live.proofs.Common.{mark_of, nearest_call, option_map, or_first, range_with_len, refl, slice_get}
-use Rattle.sc_live.proofs.Common.{span_from, subst, suc, sym, take, true, unwrap_or, zero-add, ℕ, ◌++◌, ◌+◌, ◌-◌, ◌<◌}
-use Rattle.sc_live.proofs.Common.{◌||◌, ◌∙◌, ◌∷◌, ◌≡◌, ◌≤◌, ◌⊎◌}
+use Rattle.sc_live.proofs.Common.{arith, as_interval, drop, false, from_here, has_call, if◌then◌else◌, inl, inr}
+use Rattle.sc_live.proofs.Common.{interval_at, interval_of, is_met, is_used, leb, length, list_any, map, mark_from}
+use Rattle.sc_live.proofs.Common.{mark_here, mark_of, nearest_call, option_map, point_behind, range_with_len, refl}
+use Rattle.sc_live.proofs.Common.{slice_get, span_from, subst, suc, sym, take, true, unwrap_or, zero, zero-add, ℕ, ◌++◌}
+use Rattle.sc_live.proofs.Common.{◌+◌, ◌-◌, ◌<◌, ◌||◌, ◌∙◌, ◌∷◌, ◌≡◌, ◌≤◌, ◌⊎◌}
 use Rattle.std.proofs.lemmas.List.FromFn.{get_or-map-range_with_len, length-map-range_with_len, map-range_with_len_more}
 use Rattle.std.proofs.lemmas.Option.{get_or_from_slice_get, slice_get_within}
 use Rattle.std.proofs.lemmas.Bool.Decides.{leb_tells}
@@ -124,25 +124,29 @@ calls t (x ∷ xs) =
         ∙ ap (λ n. any_call (take (suc (suc (length xs) - 1 - last) - n) (drop n (x ∷ xs)))) (sym first)
 
 -- INTERVALS
+-- nothing stands behind the code
+none_behind : (points : List Point) (at : ℕ) → length points ≤ at → drop at points ≡ []
+none_behind [] zero h = refl
+none_behind [] (suc at) h = refl
+none_behind (x ∷ xs) zero h = absurd (omega (arith, h))
+none_behind (x ∷ xs) (suc at) h = none_behind xs at (omega (arith, h))
+
+none_taken : (n : ℕ) → any_call (take n []) ≡ false
+none_taken zero = refl
+none_taken (suc n) = refl
+
+no_call : (points : List Point) (t : ℕ) → false ≡ has_call points (point_behind points t)
+no_call points t =
+    let at : ℕ = length points + t in
+    sym (ap (λ xs. any_call (take (suc at - at) xs)) (none_behind points at (omega arith)) ∙ none_taken (suc at - at))
+
+abbrev from_span : List Point → ℕ → Option Span → Interval
+from_span points t span = as_interval t points (unwrap_or span (point_behind points t))
+
 whole : (t : ℕ) (points : List Point) (known : Option Mark) → Calls points known →
-    interval_at t (length points) (unwrap_or known (mark_from (length points - 1) (nearest_call points)
-    (length points - 1)))
-    ≡ record {
-      temp = t;
-      first = (or_first (option_map (flip (length points)) known)).first;
-      last = (or_first (option_map (flip (length points)) known)).last;
-      spans_call = has_call points (or_first (option_map (flip (length points)) known));
-    }
+    interval_at t (length points) known ≡ from_span points t (option_map (flip (length points)) known)
 whole t points None h =
-    let none : length points - 1 - (length points - 1) ≡ 0 = omega arith in
-    λ i. record { temp = t; first = none i; last = none i; spans_call = first_call points i }
-  where
-    first_call : (points : List Point) →
-        is_met (nearest_call points) (length points - 1) ≡ has_call points (record { first = 0; last = 0 })
-    first_call [] = refl
-    first_call (x ∷ xs) =
-        let one : suc (length xs) - (suc (length xs) - 1) ≡ suc 0 - 0 = omega arith in
-        met (suc (length xs) - 1) (x ∷ xs) ∙ ap (λ n. any_call (take n (x ∷ xs))) one
+    λ i. record { temp = t; first = length points + t; last = length points + t; spans_call = no_call points t i }
 whole t points (Some mark) h = λ i. record {
   temp = t;
   first = length points - 1 - mark.first;
@@ -150,27 +154,15 @@ whole t points (Some mark) h = λ i. record {
   spans_call = h i;
 }
 
-pub interval_is : (t : ℕ) (points : List Point) →
-    interval_at t (length points) (unwrap_or (mark_of t points) (mark_from (length points - 1) (nearest_call points)
-    (length points - 1)))
-    ≡ interval_of points t
+interval_is : (t : ℕ) (points : List Point) → interval_at t (length points) (mark_of t points) ≡ interval_of points t
 interval_is t points =
     whole t points (mark_of t points) (calls t points)
-    ∙ ap (λ s. record {
-      temp = t;
-      first = (or_first s).first;
-      last = (or_first s).last;
-      spans_call = has_call points (or_first s);
-    }) (sym (spans t (length points) 0 points (sym (zero-add (length points)))))
+    ∙ ap (from_span points t) (sym (spans t (length points) 0 points (sym (zero-add (length points)))))
 
 pub interval_known : (t : ℕ) (walk : Walk) (temps : ℕ) (points : List Point) → Holds temps walk points → t < temps →
-    interval_at t walk.points (unwrap_or (unwrap_or (slice_get walk.marks t) None)
-    (mark_from (walk.points - 1) walk.call (walk.points - 1)))
-    ≡ interval_of points t
+    interval_at t walk.points (unwrap_or (slice_get walk.marks t) None) ≡ interval_of points t
 interval_known t walk temps points h within =
-    (λ i. interval_at t (h.counted i) (unwrap_or (unwrap_or (h.marks t within i) None)
-    (mark_from (h.counted i - 1) (h.call i) (h.counted i - 1))))
-    ∙ interval_is t points
+    (λ i. interval_at t (h.counted i) (unwrap_or (h.marks t within i) None)) ∙ interval_is t points
 
 -- spans that begin no earlier than a point, and end no earlier than they begin
 abbrev From : ℕ → Option Span → Type 0
@@ -197,7 +189,8 @@ from t at (x ∷ xs) =
 in_order : (points : List Point) (t : ℕ) → (interval_of points t).first ≤ (interval_of points t).last
 in_order points t = ordered (span_from t 0 points) (from t 0 points)
   where
-    ordered : (span : Option Span) → From 0 span → (or_first span).first ≤ (or_first span).last
+    ordered : (span : Option Span) → From 0 span →
+        (unwrap_or span (point_behind points t)).first ≤ (unwrap_or span (point_behind points t)).last
     ordered None h = omega arith
     ordered (Some span) h = h.1
 

@@ -45,3 +45,10 @@ stmt_after list at points after start x some within is few more =
 -- A FUNCTION
 pub body_room : (f : TacFnTree) (points : ℕ) → IsFunction f → points ≡ 0 → points + weight f.body < 2 ^ 32
 body_room f points h none = omega (arith, h.light, h.few_nodes, none)
+
+-- with the temporaries that are never used, which have points behind the code
+pub points_room : (f tree : TacFnTree) (points start : ℕ) → tree ≡ f → IsFunction f → start ≡ 0 →
+    points ≤ start + weight tree.body → points + f.temps < 2 ^ 32
+points_room f tree points start same h none few =
+    let weighs : weight tree.body ≡ weight f.body = ap (λ f. weight f.body) same in
+    omega (arith, h.light, h.few_nodes, h.few_temps, none, few, weighs)

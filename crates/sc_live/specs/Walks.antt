@@ -1,6 +1,7 @@
 -- Helping: what is known on the way back through a function's code.
 use Rattle.sc_tac.specs.Prelude.{Lives, Point, TempSet, Trail, ahead_at, is_used, live_before, row_points, trail}
-use Rattle.std.specs.Prelude.{◌≡◌, ◌<◌, ℕ, suc, ◌-◌, if◌then◌else◌, List, ◌++◌, map, length, Some, slice_get}
+use Rattle.std.specs.Prelude.{List, None, Option, Some, false, if◌then◌else◌, length, map, slice_get, suc, ℕ, ◌++◌, ◌+◌}
+use Rattle.std.specs.Prelude.{◌-◌, ◌<◌, ◌≡◌}
 use Rattle.sc_tac.specs.declared.interval.Interval.{Interval}
 use Rattle.sc_tac.specs.declared.stmt.TacStmt.{TacStmt}
 use Rattle.sc_live.specs.declared.marks.Mark.{Mark}
@@ -42,9 +43,10 @@ WalkedOver stmt lives = Walked ((trail stmt).points lives) (live_first (trail st
 abbrev pub WalkedAll : List TacStmt → Lives → Walk → Walk → Type 0
 WalkedAll stmts lives = Walked (row_points (map trail stmts) lives) (live_before (map trail stmts) lives)
 
--- an interval from a mark among all points of a function
-abbrev pub interval_at : ℕ → ℕ → Mark → Interval
-interval_at t points mark = record {
+-- an interval from what is known among all points of a function
+abbrev pub interval_at : ℕ → ℕ → Option Mark → Interval
+interval_at t points None = record { temp = t; first = points + t; last = points + t; spans_call = false }
+interval_at t points (Some mark) = record {
   temp = t;
   first = points - 1 - mark.first;
   last = points - 1 - mark.last;

@@ -1,11 +1,10 @@
 ghost use Rattle.sc_tac.specs.Prelude.{AreCovering, Point, function_points, interval_of, intervals_of};
-ghost use Rattle.std.specs.Prelude.{◌≡◌, ◌<◌, ℕ, ◌-◌, List, None, IfOk, slice_get};
+ghost use Rattle.std.specs.Prelude.{◌≡◌, ◌<◌, ◌+◌, ◌^◌, ℕ, List, None, IfOk, slice_get};
 ghost use Rattle.std.specs.Option.{unwrap_or};
-ghost use Rattle.sc_live.specs.Marks.{mark_from};
 ghost use Rattle.sc_live.specs.Walks.{Holds, interval_at};
 
 use crate::live::LiveSet;
-use crate::marks::{Here, Mark, mark_to};
+use crate::marks::Mark;
 use crate::walk::{Exits, Walk};
 use sc_base::OutOfMemory;
 use sc_tac::{Interval, Intervals, TacFn};
@@ -22,42 +21,43 @@ fn known(walk: &Walk, temp: u32) -> Option<Mark>
     }
 }
 
-// From a mark among all points of a function. A temporary that is never used has the first point.
-fn interval_at(walk: &Walk, temp: u32, known: Option<Mark>) -> Interval
-    ensures { result ≡ interval_at temp walk.now.points
-        (unwrap_or known (mark_from (walk.now.points - 1) walk.now.call (walk.now.points - 1))) }
+// From what is known among all points of a function. A temporary that is never used has a point behind the code.
+fn interval_at(points: u32, temp: u32, known: Option<Mark>) -> Interval
+    requires { points + temp < 2 ^ 32 }
+    ensures { result ≡ interval_at temp points known }
 {
-    let first = walk.points.saturating_sub(1);
-    let mark = match known {
-        Some(mark) => mark,
-        None => mark_to(
-            Here {
-                at: first,
-                call: walk.call,
-                end: first,
-            },
-            None,
-        ),
-    };
-    Interval {
-        temp,
-        first: first.saturating_sub(mark.first),
-        last: first.saturating_sub(mark.last),
-        spans_call: mark.spans_call,
+    match known {
+        None => Interval {
+            temp,
+            first: points + temp,
+            last: points + temp,
+            spans_call: false,
+        },
+        Some(mark) => {
+            let first = points.saturating_sub(1);
+            Interval {
+                temp,
+                first: first.saturating_sub(mark.first),
+                last: first.saturating_sub(mark.last),
+                spans_call: mark.spans_call,
+            }
+        }
     }
 }
 
 // The interval of a temporary, from a walk over all points.
 fn interval(walk: &Walk, temp: u32) -> Interval
+    requires { walk.now.points + temp < 2 ^ 32 }
     ensures { (temps : ℕ) (points : List Point) → Holds temps walk.now points → temp < temps →
         result ≡ interval_of points temp }
 {
-    interval_at(walk, temp, known(walk, temp))
+    interval_at(walk.points, temp, known(walk, temp))
 }
 
 // Back from the end of a function's code to its start.
 fn walked(alloc: Global, f: &TacFn) -> Result<Walk, OutOfMemory>
-    ensures { IfOk result (λ walk. Holds f.now.temps walk (function_points f.now)) }
+    ensures holds { IfOk result (λ walk. Holds f.now.temps walk (function_points f.now)) }
+    ensures few { IfOk result (λ walk. walk.points + f.now.temps < 2 ^ 32) }
 {
     let tree = f.tree();
     let nothing = LiveSet::new(alloc);

@@ -35,8 +35,8 @@ fn is_met(call: Option<u32>, last: u32) -> bool
     }
 }
 
-/// From a point on: to its end, or to the end of what is known if that is further.
-pub fn mark_to(here: Here, known: Option<Mark>) -> Mark
+// From a point on: to its end, or to the end of what is known if that is further.
+fn mark_to(here: Here, known: Option<Mark>) -> Mark
     ensures { result ≡ mark_to here.at here.call here.end known }
 {
     let last = match known {

@@ -7,9 +7,10 @@ use Rattle.sc_lower.proofs.Common.{constant_of, count_code, either, eq-eqb, eqb-
 use Rattle.sc_lower.proofs.Common.{expr_induction, false, false≢true, fold-TacStmt, fold-roll-TacStmt, from_first}
 use Rattle.sc_lower.proofs.Common.{from_one, from_two, if◌then◌else◌, inl, inr, is_array, is_pointer, is_unsigned_op}
 use Rattle.sc_lower.proofs.Common.{loaded, lone, lowered, lowered_step, map, map-TacStmt, member, move_op, not, not_op}
-use Rattle.sc_lower.proofs.Common.{or_code, or_right, place_code, reading, reading_step, refl, roll-TacStmt, row_first}
-use Rattle.sc_lower.proofs.Common.{row_fresh, scalar_in, size_of, subst, sym, target_cells, term_of, term_step, true}
-use Rattle.sc_lower.proofs.Common.{truth_code, unary_op, with_parts, ℕ, ◌&&◌, ◌++◌, ◌+◌, ◌==◌, ◌||◌, ◌∙◌, ◌∷◌, ◌≡◌, ◌⊎◌}
+use Rattle.sc_lower.proofs.Common.{or_code, or_right, place_code, reading, reading_step, refl, replaced, roll-TacStmt}
+use Rattle.sc_lower.proofs.Common.{row_first, row_fresh, scalar_in, size_of, subst, sym, target_cells, term_of}
+use Rattle.sc_lower.proofs.Common.{term_step, true, truth_code, unary_op, with_parts, ℕ, ◌&&◌, ◌++◌, ◌+◌, ◌==◌, ◌||◌}
+use Rattle.sc_lower.proofs.Common.{◌∙◌, ◌∷◌, ◌≡◌, ◌⊎◌}
 use Rattle.sc_base.specs.declared.op.BinaryOp.TheVariants as op
 use Rattle.sc_base.specs.declared.op.UnaryOp.TheVariants as unary
 use Rattle.sc_core.specs.declared.expr.TypedKind.TheOpen as term
@@ -217,20 +218,24 @@ loaded_reads ty want.Value at b t ahead following h = by (is_array ty) h where
   by true h = following h
   by false h = load_reads at (is_pointer ty) b t ahead following h
 
-pub place_settled : (ty : Ty) (w : Want) (l : Lows) → Settled l → Settled (at_place ty l w)
-place_settled ty w l hl = record {
+replaced_settled : (a : Lows) (last : ℕ → List TacStmt) → ((at : ℕ) → ReadsOne at at (last at)) → Settled a →
+    Settled (replaced a last)
+replaced_settled a last k ha = record {
   settles = λ n b t ahead following h.
-      hl.settles n b t (record ahead { following = first t (loaded ty w (l n).at) ahead })
-      (loaded_reads ty w (l n).at b t ahead following)
-      (sym (first_append t (l n).code (loaded ty w (l n).at) ahead) ∙ h);
+      let at : ℕ = (a n).at in
+      ha.settles n b t (record ahead { following = first t (last at) ahead }) (k at b t ahead following)
+      (sym (first_append t (a n).code (last at) ahead) ∙ h);
 }
+
+pub place_settled : (ty : Ty) (w : Want) (l : Lows) → Settled l → Settled (at_place ty l w)
+place_settled ty w l hl = replaced_settled l (loaded ty w) (loaded_reads ty w) hl
 
 one_settled : (a : Lows) (make : ℕ → ℕ → TacStmt) → ((d x : ℕ) → ReadsOne d x (make d x ∷ [])) → Settled a →
     Settled (from_one a make)
 one_settled a make k ha = record {
   settles = λ n b t ahead following h.
-      let last : List TacStmt = make (a n).at (a n).at ∷ [] in
-      ha.settles n b t (record ahead { following = first t last ahead }) (k (a n).at (a n).at b t ahead following)
+      let last : List TacStmt = make (a n).next (a n).at ∷ [] in
+      ha.settles n b t (record ahead { following = first t last ahead }) (k (a n).next (a n).at b t ahead following)
       (sym (first_append t (a n).code last ahead) ∙ h);
 }
 
@@ -239,10 +244,10 @@ two_settled : (a b : Lows) (make : ℕ → ℕ → ℕ → TacStmt) → ((d x y 
 two_settled a c make k ha hb = record {
   settles = λ n b t ahead following h.
       let x : Low = a n in let y : Low = c x.next in
-      let last : List TacStmt = make y.at x.at y.at ∷ [] in
+      let last : List TacStmt = make y.next x.at y.at ∷ [] in
       ha.settles n b t (record ahead { following = first t (y.code ++ last) ahead })
       (λ g. out_of (x.at) t b (hb.settles x.next (x.at == t || b) t (record ahead { following = first t last ahead })
-      (λ f. further (k y.at x.at y.at b t ahead following f) (into x.at t b)) (sym (first_append t y.code last ahead)
+      (λ f. further (k y.next x.at y.at b t ahead following f) (into x.at t b)) (sym (first_append t y.code last ahead)
       ∙ g)))
       (sym (first_append t x.code (y.code ++ last) ahead) ∙ h);
 }
@@ -362,20 +367,21 @@ module _ (structs : List TypedStruct) where
         subst (λ l. Settled (l.form w)) (sym (expr_at _ _ (term_step structs params) lowered_step ty k))
         (level ty k h w))
 
-one_alloc : (cells d x : ℕ) → ReadsOne d x (emit.Alloc d x cells ∷ [])
-one_alloc cells d x b t ahead following h =
-    plain_reads t d (x == t || false) ahead.following (sym (first_one t (tac.Alloc d x cells) (emit.Alloc d x cells)
-    ahead (emit.rolls-Alloc d x cells)) ∙ h) (λ k. one_read x t k (λ e. inl e))
-    (λ g. further (following g) (λ a. inr a))
+one_alloc : (cells at : ℕ) → ReadsOne at at (emit.Alloc at at cells ∷ [])
+one_alloc cells at b t ahead following h =
+    plain_reads t at (at == t || false) ahead.following
+    (sym (first_one t (tac.Alloc at at cells) (emit.Alloc at at cells) ahead (emit.rolls-Alloc at at cells)) ∙ h)
+    (λ k. one_read at t k (λ e. inl e)) (λ g. further (following g) (λ a. inr a))
 
 -- a count, and then a block
 pub allocation_settled : (structs : List TypedStruct) (params : ℕ) (count : Option TypedExpr) (cells : ℕ) →
     Settled (allocation (count_code structs params count) cells)
 allocation_settled structs params count cells =
-    one_settled (count_code structs params count) (λ d x. emit.Alloc d x cells) (one_alloc cells) (by count) where
-      by : (count : Option TypedExpr) → Settled (count_code structs params count)
-      by None = lone_settled (λ d. emit.Const d (constant.Word 1)) (λ d. const_settles d (constant.Word 1))
-      by (Some e) = expr_settled structs params e want.Value
+    replaced_settled (count_code structs params count) (λ at. emit.Alloc at at cells ∷ []) (one_alloc cells) (by count)
+  where
+    by : (count : Option TypedExpr) → Settled (count_code structs params count)
+    by None = lone_settled (λ d. emit.Const d (constant.Word 1)) (λ d. const_settles d (constant.Word 1))
+    by (Some e) = expr_settled structs params e want.Value
 
 pub local_settled : (params k : ℕ) (ty : Ty) → Settled (at_place ty (lone (place_code params (Local k))) want.Place)
 local_settled params k ty =

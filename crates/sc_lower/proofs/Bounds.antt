@@ -131,12 +131,12 @@ place_rises ty w l k h = record {
 one_rises : (a : Lows) (make : ℕ → ℕ → TacStmt) (k : ℕ) → ((d x : ℕ) → AtMost (make d x) 13) → Rises a k →
     RisesPlace (from_one a make) (suc k)
 one_rises a make k most h = record {
-  above = h.above;
-  below = h.below;
+  above = λ n. omega (numbers, h.above n, h.below n);
+  below = λ n. omega numbers;
   few = λ n. omega (numbers, h.few n);
   light = λ n.
-      subst (λ x. x + 18 ≤ 24 * suc k) (sym (weight_append (a n).code (make (a n).at (a n).at ∷ [])))
-      (by (weight (a n).code) (weight (make (a n).at (a n).at ∷ [])) (h.light n) (most (a n).at (a n).at));
+      subst (λ x. x + 18 ≤ 24 * suc k) (sym (weight_append (a n).code (make (a n).next (a n).at ∷ [])))
+      (by (weight (a n).code) (weight (make (a n).next (a n).at ∷ [])) (h.light n) (most (a n).next (a n).at));
 } where
   by : (u v : ℕ) → u + 11 ≤ 24 * k → v ≤ 13 → u + v + 18 ≤ 24 * suc k
   by u v h x = omega (numbers, h, x)
@@ -144,16 +144,16 @@ one_rises a make k most h = record {
 two_rise : (a b : Lows) (make : ℕ → ℕ → ℕ → TacStmt) (ka kb : ℕ) → ((d x y : ℕ) → AtMost (make d x y) 13) → Rises a ka →
     Rises b kb → RisesPlace (from_two a b make) (suc (ka + kb))
 two_rise a b make ka kb most ha hb = record {
-  above = λ n. omega (numbers, ha.above n, ha.below n, hb.above (a n).next);
-  below = λ n. hb.below (a n).next;
+  above = λ n. omega (numbers, ha.above n, ha.below n, hb.above (a n).next, hb.below (a n).next);
+  below = λ n. omega numbers;
   few = λ n. omega (numbers, ha.few n, hb.few (a n).next);
   light = λ n.
       let y : Low = b (a n).next in
-      let last : List TacStmt = make y.at (a n).at y.at ∷ [] in
+      let last : List TacStmt = make y.next (a n).at y.at ∷ [] in
       subst (λ x. x + 18 ≤ 24 * suc (ka + kb)) (sym (weight_append (a n).code (y.code ++ last)
       ∙ ap (λ x. weight (a n).code + x) (weight_append y.code last)))
       (by (weight (a n).code) (weight y.code) (weight last) (ha.light n) (hb.light (a n).next)
-      (most y.at (a n).at y.at));
+      (most y.next (a n).at y.at));
 } where
   by : (u v w : ℕ) → u + 11 ≤ 24 * ka → v + 11 ≤ 24 * kb → w ≤ 13 → u + (v + w) + 18 ≤ 24 * suc (ka + kb)
   by u v w h g x = omega (numbers, h, g, x)

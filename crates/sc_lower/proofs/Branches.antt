@@ -12,10 +12,11 @@ use Rattle.sc_lower.proofs.Common.{from_one, from_two, ifs, ifs_step, if◌then�
 use Rattle.sc_lower.proofs.Common.{inits_code, is_array, is_pointer, is_unsigned_op, just, kind_branches, kind_step}
 use Rattle.sc_lower.proofs.Common.{layer_of, length, loaded, local_branches, lone, lowered, lowered_step, many, map}
 use Rattle.sc_lower.proofs.Common.{map-TacStmt, member, move_op, not_op, on_line, op_branches, or_code, part_branches}
-use Rattle.sc_lower.proofs.Common.{part_code, place_code, refl, return_value, roll-TacStmt, scalar_in, simple_branches}
-use Rattle.sc_lower.proofs.Common.{simple_code, size_of, stmt_at, stmt_branches, stmt_code, stmt_ifs, stmt_induction}
-use Rattle.sc_lower.proofs.Common.{store_at, subst, suc, sym, target_cells, term_branches, term_of, term_step, test}
-use Rattle.sc_lower.proofs.Common.{total, true, truth_code, typed, unary_op, ℕ, ◌++◌, ◌+◌, ◌∙◌, ◌∷◌, ◌≡◌}
+use Rattle.sc_lower.proofs.Common.{part_code, place_code, refl, replaced, return_value, roll-TacStmt, scalar_in}
+use Rattle.sc_lower.proofs.Common.{simple_branches, simple_code, size_of, stmt_at, stmt_branches, stmt_code, stmt_ifs}
+use Rattle.sc_lower.proofs.Common.{stmt_induction, store_at, subst, suc, sym, target_cells, term_branches, term_of}
+use Rattle.sc_lower.proofs.Common.{term_step, test, total, true, truth_code, typed, unary_op, ℕ, ◌++◌, ◌+◌, ◌∙◌, ◌∷◌}
+use Rattle.sc_lower.proofs.Common.{◌≡◌}
 use Rattle.sc_lower.specs.Prelude.{HasBranches, branches, lowered_function, lowered_program, lowered_sections}
 use Rattle.sc_event.specs.declared.interface.Interfaces.{Interfaces}
 use Rattle.sc_core.specs.declared.program.ProgramTree.{ProgramTree}
@@ -89,19 +90,24 @@ loaded_without ty want.Value at = by (is_array ty) where
   by false = ifs_one (tac.Load at at (is_pointer ty)) (emit.Load at at (is_pointer ty))
       (emit.rolls-Load at at (is_pointer ty))
 
+replaced_has : (a : Lows) (last : ℕ → List TacStmt) (k : ℕ) → ((at : ℕ) → ifs (last at) ≡ 0) → Has a k →
+    Has (replaced a last) k
+replaced_has a last k none h n = then_none (a n).code (last (a n).at) k (h n) (none (a n).at)
+
 place_has : (ty : Ty) (w : Want) (l : Lows) (k : ℕ) → Has l k → Has (at_place ty l w) k
-place_has ty w l k h n = then_none (l n).code (loaded ty w (l n).at) k (h n) (loaded_without ty w (l n).at)
+place_has ty w l k = replaced_has l (loaded ty w) k (loaded_without ty w)
 
 one_has : (a : Lows) (make : ℕ → ℕ → TacStmt) (k : ℕ) → ((d x : ℕ) → Without (make d x)) → Has a k →
     Has (from_one a make) k
-one_has a make k none h n = then_none (a n).code (make (a n).at (a n).at ∷ []) k (h n) (none (a n).at (a n).at)
+one_has a make k none h n =
+    then_none (a n).code (make (a n).next (a n).at ∷ []) k (h n) (none (a n).next (a n).at)
 
 two_has : (a b : Lows) (make : ℕ → ℕ → ℕ → TacStmt) (k j : ℕ) → ((d x y : ℕ) → Without (make d x y)) → Has a k →
     Has b j → Has (from_two a b make) (k + j)
 two_has a b make k j none ha hb n =
     let y : Low = b (a n).next in
-    then_ifs (a n).code (y.code ++ make y.at (a n).at y.at ∷ []) k j (ha n)
-    (then_none y.code (make y.at (a n).at y.at ∷ []) j (hb (a n).next) (none y.at (a n).at y.at))
+    then_ifs (a n).code (y.code ++ make y.next (a n).at y.at ∷ []) k j (ha n)
+    (then_none y.code (make y.next (a n).at y.at ∷ []) j (hb (a n).next) (none y.next (a n).at y.at))
 
 if_ifs : (c : ℕ) (x y : List TacStmt) → ifs (emit.If c x y ∷ []) ≡ suc (ifs x + ifs y)
 if_ifs c x y = ifs_one (tac.If c x y) (emit.If c x y) (emit.rolls-If c x y)
@@ -257,8 +263,8 @@ free_without at = ifs_one (tac.Free at) (emit.Free at) (emit.rolls-Free at)
 allocate_has : (f : Forms) (a : Lows) (cells k j : ℕ) → Has (f want.Place) k → Has a j →
     PartHas (allocate_at f a cells) (k + j)
 allocate_has f a cells k j hf ha n =
-    after_has (allocation a cells) (store_at f) j k (one_has a (λ d x. emit.Alloc d x cells) j
-    (λ d x. alloc_without d x cells) ha) (λ at. store_has f k at hf) n ∙ turned j k where
+    after_has (allocation a cells) (store_at f) j k (replaced_has a (λ at. emit.Alloc at at cells ∷ []) j
+    (λ at. alloc_without at at cells) ha) (λ at. store_has f k at hf) n ∙ turned j k where
       turned : (a b : ℕ) → a + b ≡ b + a
       turned a b = omega numbers
 

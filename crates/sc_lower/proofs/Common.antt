@@ -128,7 +128,7 @@ pub use Rattle.sc_lower.specs.Prelude.{ifs_step, in_turn, init_beyond, init_bran
 pub use Rattle.sc_lower.specs.Prelude.{kind_beyond, kind_branches, kind_step, loaded, local_beyond, local_branches}
 pub use Rattle.sc_lower.specs.Prelude.{lone, lowered, lowered_function, lowered_program, lowered_section}
 pub use Rattle.sc_lower.specs.Prelude.{lowered_sections, lowered_step, many, member, move_op, not_op, op_branches}
-pub use Rattle.sc_lower.specs.Prelude.{or_code, part_beyond, part_branches, part_code, place_code, return_value}
-pub use Rattle.sc_lower.specs.Prelude.{scalar_in, scalar_of, simple_beyond, simple_branches, simple_code, size_of}
-pub use Rattle.sc_lower.specs.Prelude.{stmt_beyond, stmt_branches, stmt_code, stmt_ifs, store_at, term_beyond}
+pub use Rattle.sc_lower.specs.Prelude.{or_code, part_beyond, part_branches, part_code, place_code, replaced}
+pub use Rattle.sc_lower.specs.Prelude.{return_value, scalar_in, scalar_of, simple_beyond, simple_branches, simple_code}
+pub use Rattle.sc_lower.specs.Prelude.{size_of, stmt_beyond, stmt_branches, stmt_code, stmt_ifs, store_at, term_beyond}
 pub use Rattle.sc_lower.specs.Prelude.{term_branches, term_step, test, truth_code, unary_op, values_of, variable_beyond}

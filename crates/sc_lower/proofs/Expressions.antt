@@ -107,14 +107,15 @@ module _ (arith : Arith) (here : Here) (calls : Calls) where
       FromOne (λ d x. make d x ∷ []) g → Computes a r →
       Computes (from_one a make) (λ blocks. bind (r blocks) (g blocks))
   one_computes a make r g one ha = record {
-    above = ha.above;
-    below = ha.below;
+    above = λ n. omega (numbers, ha.above n, ha.below n);
+    below = λ n. omega numbers;
     gives = λ n t s.
         let x : Low = a n in
-        seq arith here calls n x.at x.at t s (r (s.memory here.comp)) (g (s.memory here.comp)) x.code
-        (make x.at x.at ∷ []) (ha.gives n t s)
-        (λ v u is e k. weaken arith here calls n n x.at t u s (g (s.memory here.comp) v) _ (omega numbers) k
-        (one n x.at x.at v u s (ha.above n) e));
+        let up : n ≤ x.next = omega (numbers, ha.above n, ha.below n) in
+        seq arith here calls n x.at x.next t s (r (s.memory here.comp)) (g (s.memory here.comp)) x.code
+        (make x.next x.at ∷ []) (ha.gives n t s)
+        (λ v u is e k. weaken arith here calls n n x.next t u s (g (s.memory here.comp) v) _ (omega numbers) k
+        (one n x.next x.at v u s up e));
   }
 
   two_compute : (left right : Bool) (a b : Lows) (make : ℕ → ℕ → ℕ → TacStmt) (ra rb : Blocks → Result Value Cause)
@@ -122,19 +123,19 @@ module _ (arith : Arith) (here : Here) (calls : Calls) where
       FromTwo left right make g → Kinded left ra → Kinded right rb → Computes a ra → Computes b rb →
       Computes (from_two a b make) (λ blocks. bind (ra blocks) (λ v. bind (rb blocks) (g blocks v)))
   two_compute left right a b make ra rb g one ka kb ha hb = record {
-    above = λ n. omega (numbers, ha.above n, ha.below n, hb.above (a n).next);
-    below = λ n. hb.below (a n).next;
+    above = λ n. omega (numbers, ha.above n, ha.below n, hb.above (a n).next, hb.below (a n).next);
+    below = λ n. omega numbers;
     gives = λ n t s.
         let m = s.memory here.comp in
         let x : Low = a n in let y : Low = b x.next in
         let up : n ≤ x.next = omega (numbers, ha.above n, ha.below n) in
-        seq arith here calls n x.at y.at t s (ra m) (λ v. bind (rb m) (g m v)) x.code _ (ha.gives n t s)
-        (λ v u is e k. weaken arith here calls n n y.at t u s (bind (rb m) (g m v)) _ (omega numbers) k
-        (weaken arith here calls n x.next y.at u u s (bind (rb m) (g m v)) _ up (λ i lt. refl)
-        (seq arith here calls x.next y.at y.at u s (rb m) (g m v) y.code _ (hb.gives x.next u s)
-        (λ w q at d kk. weaken arith here calls x.next x.next y.at u q s (g m v w) _ (omega numbers) kk
-        (one x.next y.at x.at y.at v w q s (hb.above x.next) (ka m v is) (kb m w at) (kk x.at (ha.below n) ∙ e)
-        d)))));
+        let far : x.next ≤ y.next = omega (numbers, hb.above x.next, hb.below x.next) in
+        seq arith here calls n x.at y.next t s (ra m) (λ v. bind (rb m) (g m v)) x.code _ (ha.gives n t s)
+        (λ v u is e k. weaken arith here calls n n y.next t u s (bind (rb m) (g m v)) _ (omega numbers) k
+        (weaken arith here calls n x.next y.next u u s (bind (rb m) (g m v)) _ up (λ i lt. refl)
+        (seq arith here calls x.next y.at y.next u s (rb m) (g m v) y.code _ (hb.gives x.next u s)
+        (λ w q at d kk. weaken arith here calls x.next x.next y.next u q s (g m v w) _ (omega numbers) kk
+        (one x.next y.next x.at y.at v w q s far (ka m v is) (kb m w at) (kk x.at (ha.below n) ∙ e) d)))));
   }
 
   first_computes : (a b : Lows) (last : ℕ → ℕ → List TacStmt) (make : ℕ → ℕ → List TacStmt → TacStmt) (ra rb : Blocks →

@@ -196,7 +196,8 @@ one_more = plus (global 0) (lit 1)
 
 abbrev pub with_one_more : ℕ → TacShape
 with_one_more t =
-    global_fetched t (word (suc t) 1 (int_op op.Add (suc t) t (suc t) (global_stored (suc (suc t)) (suc t) Done)))
+    global_fetched t (word (suc t) 1 (int_op op.Add (suc (suc t)) t (suc t) (
+    global_stored (suc (suc (suc t))) (suc (suc t)) Done)))
 
 abbrev pub given_back : Lines
 given_back = ReturnValueLine 1 (global 0) NoLine
@@ -213,10 +214,10 @@ without_first = record {
 
 abbrev pub without_first_code : TacShape
 without_first_code =
-    Cycle (global_fetched 0 (word 1 2 (int_op op.Less 1 0 1 (tested 1))))
-    (global_fetched 2 (output 2 Done))
-    (with_one_more 3)
-    (global_fetched 6 (give 6))
+    Cycle (global_fetched 0 (word 1 2 (int_op op.Less 2 0 1 (tested 2))))
+    (global_fetched 3 (output 3 Done))
+    (with_one_more 4)
+    (global_fetched 8 (give 8))
 
 pub without_first_emits : Emits without_first without_first_code
 unfolding roll-TacStmt denote.Hole.Carrier.roll
@@ -239,10 +240,10 @@ without_next = record {
 abbrev pub without_next_code : TacShape
 without_next_code =
     word 0 1 (global_stored 1 0 (
-    Cycle (global_fetched 2 (word 3 3 (int_op op.Less 3 2 3 (tested 3))))
-    (global_fetched 4 (output 4 (with_one_more 5)))
+    Cycle (global_fetched 2 (word 3 3 (int_op op.Less 4 2 3 (tested 4))))
+    (global_fetched 5 (output 5 (with_one_more 6)))
     Done
-    (global_fetched 8 (give 8))))
+    (global_fetched 10 (give 10))))
 
 pub without_next_emits : Emits without_next without_next_code
 unfolding roll-TacStmt denote.Hole.Carrier.roll
@@ -265,10 +266,10 @@ without_parts = record {
 abbrev pub without_parts_code : TacShape
 without_parts_code =
     Cycle (word 0 1 (tested 0))
-    (global_fetched 1 (word 2 2 (int_op op.Equal 2 1 2 (
-    Fork 2 (Line tac.Break Done) Done (global_fetched 3 (output 3 (with_one_more 4)))))))
+    (global_fetched 1 (word 2 2 (int_op op.Equal 3 1 2 (
+    Fork 3 (Line tac.Break Done) Done (global_fetched 4 (output 4 (with_one_more 5)))))))
     Done
-    (global_fetched 7 (give 7))
+    (global_fetched 9 (give 9))
 
 pub without_parts_emits : Emits without_parts without_parts_code
 unfolding roll-TacStmt denote.Hole.Carrier.roll

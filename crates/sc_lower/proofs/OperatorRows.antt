@@ -42,8 +42,8 @@ outs operand result (o ∷ os) rest =
 abbrev pub outs_code : Scalar → List BinaryOp → (ℕ → TacShape) → ℕ → TacShape
 outs_code s [] rest n = rest n
 outs_code s (o ∷ os) rest n =
-    fetched n 0 (word (n + 1) 3 (two_op (tacop.Binary o s) (n + 1) n (n + 1) (output (n + 1) (
-    outs_code s os rest (n + 2)))))
+    fetched n 0 (word (n + 1) 3 (two_op (tacop.Binary o s) (n + 2) n (n + 1) (output (n + 2) (
+    outs_code s os rest (n + 3)))))
 
 -- `int x = 13;`, `output(x | 3);` and so on for each operator, `return 0;`
 abbrev pub of_int : List Sheet
@@ -106,8 +106,8 @@ below_zero =
 
 abbrev pub below_zero_code : TacShape
 below_zero_code =
-    word 0 13 (one_op (tacop.Unary unary.Minus scalar.Int) 0 0 (place 1 0 (store 1 0 (
-    outs_code scalar.Int (op.ShiftRight ∷ op.Mul ∷ op.Div ∷ op.Rem ∷ op.Less ∷ op.Greater ∷ []) zero_given 2))))
+    word 0 13 (one_op (tacop.Unary unary.Minus scalar.Int) 1 0 (place 2 0 (store 2 1 (
+    outs_code scalar.Int (op.ShiftRight ∷ op.Mul ∷ op.Div ∷ op.Rem ∷ op.Less ∷ op.Greater ∷ []) zero_given 3))))
 
 pub below_zero_emit : AllEmit below_zero ((below_zero_code ∷ []) ∷ [])
 unfolding roll-TacStmt denote.Hole.Carrier.roll
@@ -138,11 +138,11 @@ with_one =
 abbrev pub with_one_code : TacShape
 with_one_code =
     word 0 7 (place 1 0 (store 1 0 (word 2 1 (place 3 1 (store 3 2 (
-    fetched 4 0 (one_op (tacop.Unary unary.Plus scalar.Int) 4 4 (output 4 (
-    fetched 5 1 (one_op (tacop.Unary unary.Minus scalar.Unsigned) 5 5 (output 5 (
-    fetched 6 1 (one_op (tacop.Unary unary.Plus scalar.Unsigned) 6 6 (output 6 (
-    fetched 7 1 (one_op (tacop.Unary unary.BitNot scalar.Unsigned) 7 7 (output 7 (
-    zero_given 8))))))))))))))))))
+    fetched 4 0 (one_op (tacop.Unary unary.Plus scalar.Int) 5 4 (output 5 (
+    fetched 6 1 (one_op (tacop.Unary unary.Minus scalar.Unsigned) 7 6 (output 7 (
+    fetched 8 1 (one_op (tacop.Unary unary.Plus scalar.Unsigned) 9 8 (output 9 (
+    fetched 10 1 (one_op (tacop.Unary unary.BitNot scalar.Unsigned) 11 10 (output 11 (
+    zero_given 12))))))))))))))))))
 
 pub with_one_emit : AllEmit with_one ((with_one_code ∷ []) ∷ [])
 unfolding roll-TacStmt denote.Hole.Carrier.roll
@@ -173,11 +173,11 @@ logic =
 abbrev pub logic_code : TacShape
 logic_code =
     word 0 0 (place 1 0 (store 1 0 (
-    fetched 2 0 (Fork 2 (word 3 1 (fetched 4 0 (int_op op.Div 4 3 4 (truth 5 4)))) (word 5 0 Done) (output 5 (
-    fetched 6 0 (Fork 6 (word 8 1 Done) (word 7 3 (truth 8 7)) (output 8 (
-    fetched 9 0 (Fork 9 (word 11 1 Done) (fetched 10 0 (truth 11 10)) (output 11 (
-    word 12 5 (Fork 12 (word 13 3 (truth 14 13)) (word 14 0 Done) (output 14 (
-    zero_given 15)))))))))))))))
+    fetched 2 0 (Fork 2 (word 3 1 (fetched 4 0 (int_op op.Div 5 3 4 (truth 6 5)))) (word 6 0 Done) (output 6 (
+    fetched 7 0 (Fork 7 (word 9 1 Done) (word 8 3 (truth 9 8)) (output 9 (
+    fetched 10 0 (Fork 10 (word 12 1 Done) (fetched 11 0 (truth 12 11)) (output 12 (
+    word 13 5 (Fork 13 (word 14 3 (truth 15 14)) (word 15 0 Done) (output 15 (
+    zero_given 16)))))))))))))))
 
 pub logic_emit : AllEmit logic ((logic_code ∷ []) ∷ [])
 unfolding roll-TacStmt denote.Hole.Carrier.roll
@@ -198,8 +198,8 @@ orders (o ∷ os) rest = out (Two ty.Int o p a) (orders os rest)
 abbrev pub orders_code : List BinaryOp → ℕ → TacShape
 orders_code [] n = zero_given n
 orders_code (o ∷ os) n =
-    pointer_fetched n 1 (place (n + 1) 0 (two_op (tacop.PointerCompare o) (n + 1) n (n + 1) (output (n + 1) (
-    orders_code os (n + 2)))))
+    pointer_fetched n 1 (place (n + 1) 0 (two_op (tacop.PointerCompare o) (n + 2) n (n + 1) (output (n + 2) (
+    orders_code os (n + 3)))))
 
 -- `int a[3]; int *p = &a[2];`, `output(p == a);` and so on for each comparison, `return 0;`
 abbrev pub of_pointers : List Sheet
@@ -209,7 +209,7 @@ of_pointers =
 
 abbrev pub of_pointers_code : TacShape
 of_pointers_code =
-    place 0 0 (word 1 2 (move false 1 0 1 (place 2 1 (store 2 1 (orders_code comparisons 3)))))
+    place 0 0 (word 1 2 (move false 2 0 1 (place 3 1 (store 3 2 (orders_code comparisons 4)))))
 
 pub of_pointers_emit : AllEmit of_pointers ((of_pointers_code ∷ []) ∷ [])
 unfolding roll-TacStmt denote.Hole.Carrier.roll
@@ -248,13 +248,13 @@ two_further minus dest x y rest = two_op (tacop.PointerMove minus 2 scalar.Unsig
 
 abbrev pub steps_code : TacShape
 steps_code =
-    place 0 0 (word 1 2 (two_further false 1 0 1 (place 2 1 (store 2 1 (
-    pointer_fetched 3 1 (word 4 1 (two_further true 4 3 4 (place 5 1 (store 5 4 (
-    word 6 8 (pointer_fetched 7 1 (word 8 1 (two_further false 8 7 8 (member 8 8 (store 8 6 (
-    word 9 1 (pointer_fetched 10 1 (two_further false 10 10 9 (member 10 10 (
-    Line (tac.Load 10 10 false) (output 10 (
-    pointer_fetched 11 1 (place 12 0 (two_op (tacop.PointerDifference 2) 12 11 12 (output 12 (
-    zero_given 13))))))))))))))))))))))))))
+    place 0 0 (word 1 2 (two_further false 2 0 1 (place 3 1 (store 3 2 (
+    pointer_fetched 4 1 (word 5 1 (two_further true 6 4 5 (place 7 1 (store 7 6 (
+    word 8 8 (pointer_fetched 9 1 (word 10 1 (two_further false 11 9 10 (member 12 11 (store 12 8 (
+    word 13 1 (pointer_fetched 14 1 (two_further false 15 14 13 (member 16 15 (
+    Line (tac.Load 16 16 false) (output 16 (
+    pointer_fetched 17 1 (place 18 0 (two_op (tacop.PointerDifference 2) 19 17 18 (output 19 (
+    zero_given 20))))))))))))))))))))))))))
 
 pub steps_emit : AllEmit steps ((steps_code ∷ []) ∷ [])
 unfolding roll-TacStmt denote.Hole.Carrier.roll

@@ -22,9 +22,9 @@ use Rattle.sc_tac.specs.declared.stmt.Constant.TheVariants as constant
 use Rattle.sc_tac.specs.declared.stmt.TacStmt.TheOpen as tac
 use Rattle.sc_tac.specs.declared.stmt.TacStmt.TheVariants as emit
 use Rattle.sc_lower.proofs.Tests.{AllBelow, Below, Clean, OfExpression, PassedBy, PointsToElements, all_after}
-use Rattle.sc_lower.proofs.Tests.{all_append, all_one, const_passes, expr_clean, fork_passes, from_one_clean}
-use Rattle.sc_lower.proofs.Tests.{lone_clean, malloc_count, malloc_few, malloc_place, place_clean, place_passes}
-use Rattle.sc_lower.proofs.Tests.{points_fits, scalar_fits}
+use Rattle.sc_lower.proofs.Tests.{all_append, all_one, const_passes, expr_clean, fork_passes, lone_clean, malloc_count}
+use Rattle.sc_lower.proofs.Tests.{malloc_few, malloc_place, place_clean, place_passes, points_fits, replaced_clean}
+use Rattle.sc_lower.proofs.Tests.{scalar_fits}
 
 -- a value that is returned fits
 pub returned_value : (r : Option Ty) (e : Judged) → returned_fits r e ≡ true → e.fits ≡ true
@@ -175,8 +175,8 @@ module _ (temps : ℕ) (scope : Scope) (callable : Callable) (result : Option Ty
   allocate_clean : (f : Forms) (a : Lows) (cells : ℕ) → nat_le cells most_cells ≡ true → Cleans (f want.Place) →
       Cleans a → CleanPart (allocate_at f a cells)
   allocate_clean f a cells few hf ha =
-      after_clean (allocation a cells) (store_at f) (from_one_clean temps scope test exprs a (λ d x. emit.Alloc d x
-      cells) (λ d x ld lx. alloc_passes d x cells few ld lx) ha) (store_with f hf)
+      after_clean (allocation a cells) (store_at f) (replaced_clean temps scope test exprs a (λ at. emit.Alloc at at
+      cells ∷ []) (λ at lt. alloc_passes at at cells few lt lt) ha) (store_with f hf)
 
   free_with : CleanWith (λ at. just (emit.Free at ∷ []))
   free_with =

@@ -90,22 +90,22 @@ load at rest = Line (tac.Load at at false) rest
 
 abbrev pub places_code : TacShape
 places_code =
-    word 0 4 (Line (tac.GlobalPlace 1 0) (word 2 1 (move false 2 1 2 (store 2 0 (
-    word 3 5 (place 4 0 (word 5 1 (five_further 5 4 5 (member_at 2 5 5 (word 6 2 (move false 6 5 6 (store 6 3 (
-    place 7 0 (word 8 1 (five_further 8 7 8 (place 9 1 (store 9 8 (
-    word 10 6 (pointer_fetched 11 1 (member_at 0 11 11 (member_at 1 11 11 (store 11 10 (
-    pointer_fetched 12 1 (member_at 2 12 12 (word 13 1 (move false 13 12 13 (place 14 2 (store 14 13 (
-    word 15 7 (pointer_fetched 16 2 (store 16 15 (
-    place 17 2 (place 18 3 (store 18 17 (
-    pointer_fetched 19 2 (place 20 4 (word 21 1 (move false 21 20 21 (store 21 19 (
-    pointer_fetched 22 3 (Line (tac.Load 22 22 true) (load 22 (output 22 (
-    pointer_fetched 23 2 (word 24 1 (move false 24 23 24 (load 24 (output 24 (
-    pointer_fetched 25 1 (word 26 0 (five_further 26 25 26 (member_at 0 26 26 (member_at 1 26 26 (load 26 (output 26 (
-    pointer_fetched 27 1 (member_at 2 27 27 (word 28 1 (move false 28 27 28 (load 28 (output 28 (
-    Line (tac.GlobalPlace 29 0) (word 30 1 (move false 30 29 30 (load 30 (output 30 (
-    place 31 4 (word 32 1 (move false 32 31 32 (Line (tac.Load 32 32 true) (load 32 (output 32 (
-    pointer_fetched 33 1 (member_at 0 33 33 (member_at 1 33 33 (load 33 (
-    give 33)))))))))))))))))))))))))))))))))))))))))))))))))))))))))))))))))))))))))))))
+    word 0 4 (Line (tac.GlobalPlace 1 0) (word 2 1 (move false 3 1 2 (store 3 0 (
+    word 4 5 (place 5 0 (word 6 1 (five_further 7 5 6 (member_at 2 8 7 (word 9 2 (move false 10 8 9 (store 10 4 (
+    place 11 0 (word 12 1 (five_further 13 11 12 (place 14 1 (store 14 13 (
+    word 15 6 (pointer_fetched 16 1 (member_at 0 17 16 (member_at 1 18 17 (store 18 15 (
+    pointer_fetched 19 1 (member_at 2 20 19 (word 21 1 (move false 22 20 21 (place 23 2 (store 23 22 (
+    word 24 7 (pointer_fetched 25 2 (store 25 24 (
+    place 26 2 (place 27 3 (store 27 26 (
+    pointer_fetched 28 2 (place 29 4 (word 30 1 (move false 31 29 30 (store 31 28 (
+    pointer_fetched 32 3 (Line (tac.Load 32 32 true) (load 32 (output 32 (
+    pointer_fetched 33 2 (word 34 1 (move false 35 33 34 (load 35 (output 35 (
+    pointer_fetched 36 1 (word 37 0 (five_further 38 36 37 (member_at 0 39 38 (member_at 1 40 39 (load 40 (output 40 (
+    pointer_fetched 41 1 (member_at 2 42 41 (word 43 1 (move false 44 42 43 (load 44 (output 44 (
+    Line (tac.GlobalPlace 45 0) (word 46 1 (move false 47 45 46 (load 47 (output 47 (
+    place 48 4 (word 49 1 (move false 50 48 49 (Line (tac.Load 50 50 true) (load 50 (output 50 (
+    pointer_fetched 51 1 (member_at 0 52 51 (member_at 1 53 52 (load 53 (
+    give 53)))))))))))))))))))))))))))))))))))))))))))))))))))))))))))))))))))))))))))))
 
 pub places_emit : AllEmit places ((places_code ∷ []) ∷ [])
 unfolding roll-TacStmt denote.Hole.Carrier.roll
@@ -141,15 +141,15 @@ parameters =
 
 abbrev pub parameters_code : List TacShape
 parameters_code =
-    fetched 0 0 (word 1 1 (int_op op.Add 1 0 1 (place 2 0 (store 2 1 (
-    fetched 3 0 (pointer_fetched 4 1 (word 5 1 (move false 5 4 5 (store 5 3 (
-    fetched 6 0 (place 7 2 (store 7 6 (
-    pointer_fetched 8 1 (
-    Fork 8 (fetched 9 2 (word 10 1 (int_op op.Add 10 9 10 (place 11 2 (store 11 10 Done))))) Done (
-    fetched 12 2 (give 12)))))))))))))))) ∷
+    fetched 0 0 (word 1 1 (int_op op.Add 2 0 1 (place 3 0 (store 3 2 (
+    fetched 4 0 (pointer_fetched 5 1 (word 6 1 (move false 7 5 6 (store 7 4 (
+    fetched 8 0 (place 9 2 (store 9 8 (
+    pointer_fetched 10 1 (
+    Fork 10 (fetched 11 2 (word 12 1 (int_op op.Add 13 11 12 (place 14 2 (store 14 13 Done))))) Done (
+    fetched 15 2 (give 15)))))))))))))))) ∷
     word 0 6 (place 1 0 (Line (tac.CallOwn (Some 2) 0 (0 ∷ 1 ∷ [])) (place 3 1 (store 3 2 (
-    place 4 0 (word 5 1 (move false 5 4 5 (load 5 (output 5 (
-    fetched 6 1 (give 6))))))))))) ∷ []
+    place 4 0 (word 5 1 (move false 6 4 5 (load 6 (output 6 (
+    fetched 7 1 (give 7))))))))))) ∷ []
 
 pub parameters_emit : AllEmit parameters (parameters_code ∷ [])
 unfolding roll-TacStmt denote.Hole.Carrier.roll
@@ -224,18 +224,18 @@ asked_code =
     place 0 0 (place 1 1 (store 1 0 (
     Line (tac.Input (Some 2)) (Line (tac.GlobalPlace 3 0) (store 3 2 (
     Line (tac.GlobalPlace 4 0) (load 4 (word 5 3 (Line (tac.CallCross (Some 6) 1 0 (4 ∷ 5 ∷ [])) (
-    place 7 0 (word 8 1 (move false 8 7 8 (store 8 6 (
-    place 9 0 (word 10 1 (move false 10 9 10 (load 10 (Line (tac.GlobalPlace 11 0) (load 11 (
-    Line (tac.CallCross (Some 12) 1 0 (10 ∷ 11 ∷ [])) (pointer_fetched 13 1 (store 13 12 (
-    pointer_fetched 14 1 (load 14 (Line (tac.CallCross None 1 1 (14 ∷ [])) (
-    word 15 1 (word 16 2 (Line (tac.CallCross None 1 0 (15 ∷ 16 ∷ [])) (
+    place 7 0 (word 8 1 (move false 9 7 8 (store 9 6 (
+    place 10 0 (word 11 1 (move false 12 10 11 (load 12 (Line (tac.GlobalPlace 13 0) (load 13 (
+    Line (tac.CallCross (Some 14) 1 0 (12 ∷ 13 ∷ [])) (pointer_fetched 15 1 (store 15 14 (
+    pointer_fetched 16 1 (load 16 (Line (tac.CallCross None 1 1 (16 ∷ [])) (
+    word 17 1 (word 18 2 (Line (tac.CallCross None 1 0 (17 ∷ 18 ∷ [])) (
     Line (tac.Input None) (
-    place 17 0 (word 18 0 (move false 18 17 18 (load 18 (output 18 (
-    Line (tac.CallOwn (Some 19) 0 []) (place 20 2 (member_at 1 20 20 (store 20 19 (
-    place 21 0 (word 22 0 (move false 22 21 22 (load 22 (place 23 2 (member_at 1 23 23 (load 23 (
-    Line (tac.CallCross (Some 24) 1 0 (22 ∷ 23 ∷ [])) (
-    give 24))))))))))))))))))))))))))))))))))))))))))))))) ∷ []) ∷
-    (fetched 0 0 (fetched 1 1 (int_op op.Sub 1 0 1 (give 1))) ∷ Line (tac.Return None) Done ∷ []) ∷ []
+    place 19 0 (word 20 0 (move false 21 19 20 (load 21 (output 21 (
+    Line (tac.CallOwn (Some 22) 0 []) (place 23 2 (member_at 1 24 23 (store 24 22 (
+    place 25 0 (word 26 0 (move false 27 25 26 (load 27 (place 28 2 (member_at 1 29 28 (load 29 (
+    Line (tac.CallCross (Some 30) 1 0 (27 ∷ 29 ∷ [])) (
+    give 30))))))))))))))))))))))))))))))))))))))))))))))) ∷ []) ∷
+    (fetched 0 0 (fetched 1 1 (int_op op.Sub 2 0 1 (give 2))) ∷ Line (tac.Return None) Done ∷ []) ∷ []
 
 pub asked_emit : AllEmit asked asked_code
 unfolding roll-TacStmt denote.Hole.Carrier.roll

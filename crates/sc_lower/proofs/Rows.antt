@@ -56,10 +56,10 @@ signs =
 abbrev pub signs_code : TacShape
 signs_code =
     word 0 7 (place 1 0 (store 1 0 (
-    fetched 2 0 (one_op (tacop.Unary unary.Minus scalar.Int) 2 2 (output 2 (
-    fetched 3 0 (one_op (tacop.Unary unary.Not scalar.Int) 3 3 (output 3 (
-    fetched 4 0 (one_op (tacop.Unary unary.BitNot scalar.Int) 4 4 (output 4 (
-    fetched 5 0 (word 6 4 (int_op op.Rem 6 5 6 (give 6)))))))))))))))
+    fetched 2 0 (one_op (tacop.Unary unary.Minus scalar.Int) 3 2 (output 3 (
+    fetched 4 0 (one_op (tacop.Unary unary.Not scalar.Int) 5 4 (output 5 (
+    fetched 6 0 (one_op (tacop.Unary unary.BitNot scalar.Int) 7 6 (output 7 (
+    fetched 8 0 (word 9 4 (int_op op.Rem 10 8 9 (give 10)))))))))))))))
 
 pub signs_emit : AllEmit signs ((signs_code ∷ []) ∷ [])
 unfolding roll-TacStmt denote.Hole.Carrier.roll
@@ -100,18 +100,18 @@ choices =
 abbrev pub choices_code : TacShape
 choices_code =
     word 0 5 (place 1 0 (store 1 0 (
-    fetched 2 0 (word 3 5 (unsigned_op op.Equal 3 2 3 (
-    Fork 3 (word 6 1 Done)
-    (fetched 4 0 (word 5 0 (unsigned_op op.Div 5 4 5 (
-    one_op (tacop.Unary unary.Not scalar.Unsigned) 6 5 (one_op (tacop.Unary unary.Not scalar.Int) 6 6 Done)))))
-    (Fork 6 (word 7 1 (output 7 Done)) (word 8 2 (output 8 Done)) (
-    fetched 9 0 (word 10 6 (unsigned_op op.Less 10 9 10 (
-    Fork 10
-    (fetched 11 0 (one_op (tacop.Unary unary.Not scalar.Unsigned) 11 11 (
-    one_op (tacop.Unary unary.Not scalar.Int) 12 11 (one_op (tacop.Unary unary.Not scalar.Int) 12 12 Done))))
-    (word 12 0 Done)
-    (Fork 12 (word 13 3 (output 13 Done)) (word 14 4 (output 14 Done)) (
-    word 15 0 (give 15))))))))))))))
+    fetched 2 0 (word 3 5 (unsigned_op op.Equal 4 2 3 (
+    Fork 4 (word 8 1 Done)
+    (fetched 5 0 (word 6 0 (unsigned_op op.Div 7 5 6 (
+    one_op (tacop.Unary unary.Not scalar.Unsigned) 8 7 (one_op (tacop.Unary unary.Not scalar.Int) 8 8 Done)))))
+    (Fork 8 (word 9 1 (output 9 Done)) (word 10 2 (output 10 Done)) (
+    fetched 11 0 (word 12 6 (unsigned_op op.Less 13 11 12 (
+    Fork 13
+    (fetched 14 0 (one_op (tacop.Unary unary.Not scalar.Unsigned) 15 14 (
+    one_op (tacop.Unary unary.Not scalar.Int) 16 15 (one_op (tacop.Unary unary.Not scalar.Int) 16 16 Done))))
+    (word 16 0 Done)
+    (Fork 16 (word 17 3 (output 17 Done)) (word 18 4 (output 18 Done)) (
+    word 19 0 (give 19))))))))))))))
 
 pub choices_emit : AllEmit choices ((choices_code ∷ []) ∷ [])
 unfolding roll-TacStmt denote.Hole.Carrier.roll
@@ -136,12 +136,12 @@ loops =
 abbrev pub loops_code : TacShape
 loops_code =
     word 0 0 (place 1 0 (store 1 0 (
-    Cycle (fetched 2 0 (word 3 4 (int_op op.Less 3 2 3 (Fork 3 Done (Line tac.Break Done) Done))))
-    (fetched 4 0 (word 5 2 (int_op op.Equal 5 4 5 (
-    Fork 5 (Line tac.Continue Done) Done (fetched 6 0 (output 6 Done))))))
-    (fetched 7 0 (word 8 1 (int_op op.Add 8 7 8 (place 9 0 (store 9 8 Done)))))
-    (Cycle (word 10 1 (Fork 10 Done (Line tac.Break Done) Done)) (Line tac.Break Done) Done
-    (fetched 11 0 (give 11))))))
+    Cycle (fetched 2 0 (word 3 4 (int_op op.Less 4 2 3 (Fork 4 Done (Line tac.Break Done) Done))))
+    (fetched 5 0 (word 6 2 (int_op op.Equal 7 5 6 (
+    Fork 7 (Line tac.Continue Done) Done (fetched 8 0 (output 8 Done))))))
+    (fetched 9 0 (word 10 1 (int_op op.Add 11 9 10 (place 12 0 (store 12 11 Done)))))
+    (Cycle (word 13 1 (Fork 13 Done (Line tac.Break Done) Done)) (Line tac.Break Done) Done
+    (fetched 14 0 (give 14))))))
 
 pub loops_emit : AllEmit loops ((loops_code ∷ []) ∷ [])
 unfolding roll-TacStmt denote.Hole.Carrier.roll
@@ -185,21 +185,21 @@ pointers =
 
 abbrev pub pointers_code : TacShape
 pointers_code =
-    place 0 0 (word 1 1 (move false 1 0 1 (place 2 1 (store 2 1 (
-    word 3 9 (pointer_fetched 4 1 (word 5 1 (move false 5 4 5 (store 5 3 (
-    word 6 8 (pointer_fetched 7 1 (store 7 6 (
-    place 8 0 (word 9 2 (move false 9 8 9 (Line (tac.Load 9 9 false) (output 9 (
-    pointer_fetched 10 1 (word 11 1 (move true 11 10 11 (place 12 0 (
-    two_op (tacop.PointerCompare op.Equal) 12 11 12 (output 12 (
-    word 13 2 (place 14 0 (move false 14 14 13 (pointer_fetched 15 1 (
-    two_op (tacop.PointerDifference 1) 15 14 15 (output 15 (
-    Line (tac.Const 16 constant.Null) (place 17 1 (store 17 16 (
-    pointer_fetched 18 1 (one_op tacop.PointerNot 18 18 (output 18 (
-    word 19 1 (
-    Fork 19 (pointer_fetched 20 1 (one_op tacop.PointerNot 21 20 (one_op (tacop.Unary unary.Not scalar.Int) 21 21
+    place 0 0 (word 1 1 (move false 2 0 1 (place 3 1 (store 3 2 (
+    word 4 9 (pointer_fetched 5 1 (word 6 1 (move false 7 5 6 (store 7 4 (
+    word 8 8 (pointer_fetched 9 1 (store 9 8 (
+    place 10 0 (word 11 2 (move false 12 10 11 (Line (tac.Load 12 12 false) (output 12 (
+    pointer_fetched 13 1 (word 14 1 (move true 15 13 14 (place 16 0 (
+    two_op (tacop.PointerCompare op.Equal) 17 15 16 (output 17 (
+    word 18 2 (place 19 0 (move false 20 19 18 (pointer_fetched 21 1 (
+    two_op (tacop.PointerDifference 1) 22 20 21 (output 22 (
+    Line (tac.Const 23 constant.Null) (place 24 1 (store 24 23 (
+    pointer_fetched 25 1 (one_op tacop.PointerNot 26 25 (output 26 (
+    word 27 1 (
+    Fork 27 (pointer_fetched 28 1 (one_op tacop.PointerNot 29 28 (one_op (tacop.Unary unary.Not scalar.Int) 29 29
     Done)))
-    (word 21 0 Done)
-    (output 21 (word 22 0 (give 22))))))))))))))))))))))))))))))))))))))))
+    (word 29 0 Done)
+    (output 29 (word 30 0 (give 30))))))))))))))))))))))))))))))))))))))))
 
 pub pointers_emit : AllEmit pointers ((pointers_code ∷ []) ∷ [])
 unfolding roll-TacStmt denote.Hole.Carrier.roll
@@ -246,11 +246,11 @@ members =
 
 abbrev pub members_code : TacShape
 members_code =
-    word 0 3 (place 1 0 (member 1 1 (store 1 0 (
-    place 2 0 (place 3 1 (store 3 2 (
-    pointer_fetched 4 1 (member 4 4 (Line (tac.Load 4 4 false) (Line (tac.GlobalPlace 5 0) (store 5 4 (
-    Line (tac.GlobalPlace 6 0) (Line (tac.Load 6 6 false) (output 6 (
-    pointer_fetched 7 1 (member 7 7 (Line (tac.Load 7 7 false) (output 7 Done))))))))))))))))))
+    word 0 3 (place 1 0 (member 2 1 (store 2 0 (
+    place 3 0 (place 4 1 (store 4 3 (
+    pointer_fetched 5 1 (member 6 5 (Line (tac.Load 6 6 false) (Line (tac.GlobalPlace 7 0) (store 7 6 (
+    Line (tac.GlobalPlace 8 0) (Line (tac.Load 8 8 false) (output 8 (
+    pointer_fetched 9 1 (member 10 9 (Line (tac.Load 10 10 false) (output 10 Done))))))))))))))))))
 
 pub members_emit : AllEmit members ((members_code ∷ []) ∷ [])
 unfolding roll-TacStmt denote.Hole.Carrier.roll
@@ -279,7 +279,7 @@ helpers =
 
 abbrev pub helpers_code : List TacShape
 helpers_code =
-    fetched 0 0 (fetched 1 0 (int_op op.Add 1 0 1 (give 1))) ∷
+    fetched 0 0 (fetched 1 0 (int_op op.Add 2 0 1 (give 2))) ∷
     Line (tac.Return None) Done ∷
     fetched 0 0 (Line (tac.CallOwn (Some 1) 0 (0 ∷ [])) (give 1)) ∷
     Line (tac.Input (Some 0)) (place 1 0 (store 1 0 (
@@ -332,7 +332,7 @@ abbrev pub too_large : List Sheet
 too_large = sheet [] [] (main_with [] (ReturnValueLine 3 (plus (lit 2147483647) (lit 1)) NoLine) 4 ∷ []) ∷ []
 
 abbrev pub too_large_code : TacShape
-too_large_code = word 0 2147483647 (word 1 1 (int_op op.Add 1 0 1 (give 1)))
+too_large_code = word 0 2147483647 (word 1 1 (int_op op.Add 2 0 1 (give 2)))
 
 pub too_large_emit : AllEmit too_large ((too_large_code ∷ []) ∷ [])
 unfolding roll-TacStmt denote.Hole.Carrier.roll

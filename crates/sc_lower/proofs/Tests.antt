@@ -11,10 +11,10 @@ use Rattle.sc_lower.proofs.Common.{integer_kind, is_address, is_array, is_int, i
 use Rattle.sc_lower.proofs.Common.{is_some, is_target, is_type, is_unsigned_op, judged, judged_ty, leb-true, length}
 use Rattle.sc_lower.proofs.Common.{literal_fits, loaded, lone, lowered, lowered_step, lt-ltb, malloc_fits, map-TacStmt}
 use Rattle.sc_lower.proofs.Common.{member, most_cells, move_op, nat_le, not_op, or_code, place_code, points, refl}
-use Rattle.sc_lower.proofs.Common.{roll-TacStmt, same_pointers, same_ty, scalar_in, scalar_of, size_of, slice_get}
-use Rattle.sc_lower.proofs.Common.{subst, suc, sum_fits, sym, takes_two, target, target_cells, term_judged, term_of}
-use Rattle.sc_lower.proofs.Common.{term_step, true, truth_code, unary_fits, unary_op, variable_ty, with_parts, zero, ℕ}
-use Rattle.sc_lower.proofs.Common.{◌%◌, ◌&&◌, ◌*◌, ◌++◌, ◌+◌, ◌<◌, ◌==◌, ◌^◌, ◌||◌, ◌∙◌, ◌∷◌, ◌≡◌, ◌≤◌}
+use Rattle.sc_lower.proofs.Common.{replaced, roll-TacStmt, same_pointers, same_ty, scalar_in, scalar_of, size_of}
+use Rattle.sc_lower.proofs.Common.{slice_get, subst, suc, sum_fits, sym, takes_two, target, target_cells, term_judged}
+use Rattle.sc_lower.proofs.Common.{term_of, term_step, true, truth_code, unary_fits, unary_op, variable_ty, with_parts}
+use Rattle.sc_lower.proofs.Common.{zero, ℕ, ◌%◌, ◌&&◌, ◌*◌, ◌++◌, ◌+◌, ◌<◌, ◌==◌, ◌^◌, ◌||◌, ◌∙◌, ◌∷◌, ◌≡◌, ◌≤◌}
 use Rattle.sc_lower.proofs.Lowered.{lowered_ty}
 use Rattle.sc_base.specs.declared.op.BinaryOp.TheVariants as op
 use Rattle.sc_base.specs.declared.op.UnaryOp.TheVariants as unary
@@ -278,38 +278,44 @@ module _ (temps : ℕ) (scope : Scope) (test : TacStmt-F Bool → Bool) (passed 
     by false = all_one test (tac.Load at at (is_pointer t)) (emit.Load at at (is_pointer t))
         (emit.rolls-Load at at (is_pointer t)) (and_from _ true (passed (tac.Load at at (is_pointer t)) (lt, lt)) refl)
 
-  pub place_clean : (t : Ty) (w : Want) (l : Lows) → Clean l → Clean (at_place t l w)
-  place_clean t w l h = record {
-    above = h.above;
-    below = h.below;
-    passes =
-        λ n le. all_append test (l n).code (loaded t w (l n).at) (h.passes n le)
-        (loaded_passes t w (l n).at (omega (numbers, h.below n, le)));
-  }
-
-  pub from_one_clean : (a : Lows) (make : ℕ → ℕ → TacStmt) →
-      ((d x : ℕ) → d < temps → x < temps → everywhere test (make d x ∷ []) ≡ true) → Clean a → Clean (from_one a make)
-  from_one_clean a make h ha = record {
+  pub replaced_clean : (a : Lows) (last : ℕ → List TacStmt) →
+      ((at : ℕ) → at < temps → everywhere test (last at) ≡ true) → Clean a → Clean (replaced a last)
+  replaced_clean a last h ha = record {
     above = ha.above;
     below = ha.below;
+    passes = λ n le. all_append test (a n).code (last (a n).at) (ha.passes n le)
+        (h (a n).at (omega (numbers, ha.below n, le)));
+  }
+
+  pub place_clean : (t : Ty) (w : Want) (l : Lows) → Clean l → Clean (at_place t l w)
+  place_clean t w l h = replaced_clean l (loaded t w) (loaded_passes t w) h
+
+  from_one_clean : (a : Lows) (make : ℕ → ℕ → TacStmt) →
+      ((d x : ℕ) → d < temps → x < temps → everywhere test (make d x ∷ []) ≡ true) → Clean a → Clean (from_one a make)
+  from_one_clean a make h ha = record {
+    above = λ n. omega (numbers, ha.above n, ha.below n);
+    below = λ n. omega numbers;
     passes = λ n le.
-        let lt : (a n).at < temps = omega (numbers, le, ha.below n) in
-        all_append test (a n).code (make (a n).at (a n).at ∷ []) (ha.passes n le) (h (a n).at (a n).at lt lt);
+        let few : (a n).next ≤ temps = omega (numbers, le) in
+        let lt : (a n).at < temps = omega (numbers, few, ha.below n) in
+        all_append test (a n).code (make (a n).next (a n).at ∷ []) (ha.passes n few)
+        (h (a n).next (a n).at (omega (numbers, le)) lt);
   }
 
   from_two_clean : (a b : Lows) (make : ℕ → ℕ → ℕ → TacStmt) →
       ((d x y : ℕ) → d < temps → x < temps → y < temps → everywhere test (make d x y ∷ []) ≡ true) → Clean a → Clean b →
       Clean (from_two a b make)
   from_two_clean a b make h ha hb = record {
-    above = λ n. omega (numbers, ha.above n, ha.below n, hb.above (a n).next);
-    below = λ n. hb.below (a n).next;
+    above = λ n. omega (numbers, ha.above n, ha.below n, hb.above (a n).next, hb.below (a n).next);
+    below = λ n. omega numbers;
     passes = λ n le.
         let y : Low = b (a n).next in
+        let few : y.next ≤ temps = omega (numbers, le) in
         let far : (a n).next ≤ y.next = omega (numbers, hb.above (a n).next, hb.below (a n).next) in
-        let lt : y.at < temps = omega (numbers, le, hb.below (a n).next) in
-        all_append test (a n).code (y.code ++ make y.at (a n).at y.at ∷ []) (ha.passes n (omega (numbers, le, far)))
-        (all_append test y.code (make y.at (a n).at y.at ∷ []) (hb.passes (a n).next le)
-        (h y.at (a n).at y.at lt (omega (numbers, le, far, ha.below n)) lt));
+        let lt : y.at < temps = omega (numbers, few, hb.below (a n).next) in
+        all_append test (a n).code (y.code ++ make y.next (a n).at y.at ∷ []) (ha.passes n (omega (numbers, few, far)))
+        (all_append test y.code (make y.next (a n).at y.at ∷ []) (hb.passes (a n).next few)
+        (h y.next (a n).at y.at (omega (numbers, le)) (omega (numbers, few, far, ha.below n)) lt));
   }
 
   from_first_clean : (a b : Lows) (last : ℕ → ℕ → List TacStmt) (make : ℕ → ℕ → List TacStmt → TacStmt) →

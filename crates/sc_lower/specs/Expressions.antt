@@ -1,8 +1,8 @@
 -- The code of expressions: one temporary for each node at most, numbered upward.
 use Rattle.sc_lower.specs.Common.{BinaryOp, Const, Global, GlobalPlace, If, Load, Local, ObjectPlace, Op, Param}
 use Rattle.sc_lower.specs.Common.{TacStmt, Ty, TypedExpr, TypedExpr-F, TypedKind-F, TypedStruct, VarRef, fold-TypedExpr}
-use Rattle.sc_lower.specs.Common.{is_array, is_pointer, is_unsigned, is_unsigned_op, target_cells}
-use Rattle.std.specs.Prelude.{ℕ, suc, ◌+◌, ◌*◌, ◌%◌, ◌^◌, Bool, true, false, List, [], ◌∷◌, ◌++◌, None, Some}
+use Rattle.sc_lower.specs.Common.{is_array, is_pointer, is_unsigned, is_unsigned_op, size_in_bytes, target_cells}
+use Rattle.std.specs.Prelude.{ℕ, suc, ◌+◌, Bool, true, false, List, [], ◌∷◌, ◌++◌, None, Some}
 use Rattle.std.specs.Prelude.{if◌then◌else◌}
 use Rattle.sc_base.specs.declared.op.UnaryOp.{UnaryOp}
 use Rattle.sc_base.specs.declared.op.UnaryOp.TheVariants as unary
@@ -45,15 +45,19 @@ lowered_step e = record { ty = e.ty; form = e.kind e.ty }
 abbrev pub lone : (ℕ → TacStmt) → Lows
 lone make n = record { code = make n ∷ []; at = n; next = suc n }
 
--- a value, and then a statement that computes from it; its temporary takes the result
+-- a value, and then a statement that computes from it; a temporary of its own takes the result
 abbrev pub from_one : Lows → (ℕ → ℕ → TacStmt) → Lows
-from_one a make n = let x = a n in record { code = x.code ++ make x.at x.at ∷ []; at = x.at; next = x.next }
+from_one a make n = let x = a n in
+    record { code = x.code ++ make x.next x.at ∷ []; at = x.next; next = suc x.next }
 
--- two values, and then a statement that computes from them; the temporary of the last one takes the result, so that
--- this one is overwritten, and not live after the statement
+-- two values, and then a statement that computes from them; a temporary of its own takes the result
 abbrev pub from_two : Lows → Lows → (ℕ → ℕ → ℕ → TacStmt) → Lows
 from_two a b make n = let x = a n in let y = b x.next in
-    record { code = x.code ++ (y.code ++ make y.at x.at y.at ∷ []); at = y.at; next = y.next }
+    record { code = x.code ++ (y.code ++ make y.next x.at y.at ∷ []); at = y.next; next = suc y.next }
+
+-- a value, and then statements that put another in its place
+abbrev pub replaced : Lows → (ℕ → List TacStmt) → Lows
+replaced a last n = let x = a n in record { code = x.code ++ last x.at; at = x.at; next = x.next }
 
 -- a value, and then a statement that runs the code of a second one where it needs it, and `last` after that; a
 -- temporary of its own takes the result
@@ -67,7 +71,7 @@ loaded ty want.Place at = []
 loaded ty want.Value at = if is_array ty then [] else Load at at (is_pointer ty) ∷ []
 
 abbrev pub at_place : Ty → Lows → Forms
-at_place ty place w n = let x = place n in record { code = x.code ++ loaded ty w x.at; at = x.at; next = x.next }
+at_place ty place w = replaced place (loaded ty w)
 
 -- an expression that names no place
 abbrev pub no_place : Lows → Forms
@@ -75,7 +79,7 @@ no_place value w = value
 
 -- the size of a type of so many cells (C11 6.5.3.4)
 abbrev pub size_of : ℕ → Constant
-size_of cells = constant.Word (4 * cells % 2 ^ 32)
+size_of cells = constant.Word (size_in_bytes cells)
 
 -- OPERATORS
 abbrev pub scalar_in : Bool → Scalar

@@ -9,7 +9,7 @@ use Rattle.sc_core.specs.declared.stmt.TypedStmtKind.TheOpen as layer
 use Rattle.sc_core.specs.declared.stmt.TypedSimpleKind.TheVariants as simple
 use Rattle.sc_core.specs.declared.value.Want.TheVariants as want
 use Rattle.sc_tac.specs.declared.stmt.Constant.TheVariants as constant
-use Rattle.sc_lower.specs.Expressions.{Lows, Forms, forms, from_one, lone}
+use Rattle.sc_lower.specs.Expressions.{Forms, Lows, forms, lone, replaced}
 
 -- code that leaves nothing in a temporary, and the next free one
 pub record Part : Type 0 where
@@ -55,9 +55,10 @@ abbrev pub assign : Forms → Forms → Parts
 assign place value = after (value want.Value) (store_at place)
 
 -- ALLOCATIONS
--- the number of elements, then a block of as many of `cells` cells each (C11 7.22.3.4)
+-- the number of elements, then a block of as many of `cells` cells each (C11 7.22.3.4). Its pointer takes the number's
+-- temporary, since the number may be no node
 abbrev pub allocation : Lows → (cells : ℕ) → Lows
-allocation count cells = from_one count (λ dest x. Alloc dest x cells)
+allocation count cells = replaced count (λ at. Alloc at at cells ∷ [])
 
 abbrev pub allocate_at : Forms → Lows → (cells : ℕ) → Parts
 allocate_at place count cells = after (allocation count cells) (store_at place)

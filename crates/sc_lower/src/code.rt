@@ -62,6 +62,24 @@ pub fn with_last(code: Code, last: TacStmt) -> Result<Code, OutOfMemory>
     })
 }
 
+/// The code with a statement after it that assigns the next free temporary.
+pub fn with_result(code: Code, last: TacStmt) -> Result<Code, OutOfMemory>
+    requires { code.next < most_nodes }
+    ensures { IfOk result (λ longer. longer ≡ record {
+      stmts = code.stmts ++ last ∷ [];
+      at = code.next;
+      next = suc code.next;
+    }) }
+{
+    let mut stmts = code.stmts;
+    stmts.push(last)?;
+    Ok(Code {
+        stmts,
+        at: code.next,
+        next: code.next + 1,
+    })
+}
+
 /// The code after other statements.
 pub fn following(first: TacStmts, code: Code) -> Result<Code, OutOfMemory>
     ensures { IfOk result (λ longer. longer ≡ record { stmts = first ++ code.stmts; at = code.at; next = code.next }) }

@@ -7,7 +7,7 @@ ghost use Rattle.std.specs.Prelude.{IfOk, None, Some, [], suc, ℕ, ◌++◌, �
 ghost use Rattle.sc_base.specs.declared.op.BinaryOp.TheVariants as op;
 ghost use Rattle.sc_tac.specs.declared.stmt.TacStmt;
 
-use crate::code::{Code, Fragment, Scope, ended, following, loaded, lone, with_last};
+use crate::code::{Code, Fragment, Scope, ended, following, loaded, lone, with_result};
 use crate::selection::{binary_code, constant_of, move_op, place_code, unary_op, with_truth};
 use sc_base::{BinaryOp, OutOfMemory};
 use sc_core::{Ty, TypedExpr, TypedKind, VarRef, Want};
@@ -46,39 +46,41 @@ fn size(alloc: Global, cells: u32, free: u32) -> Result<Code, OutOfMemory>
     lone(alloc, stmt, free)
 }
 
-// An operator that takes one value. The value's temporary takes the result.
+// An operator that takes one value.
 fn with_op(code: Code, op: TacOp) -> Result<Code, OutOfMemory>
+    requires { code.next < most_nodes }
     ensures { IfOk result (λ longer. longer ≡ record {
-      stmts = code.stmts ++ TacStmt.Op code.at op code.at None ∷ [];
-      at = code.at;
-      next = code.next;
+      stmts = code.stmts ++ TacStmt.Op code.next op code.at None ∷ [];
+      at = code.next;
+      next = suc code.next;
     }) }
 {
     let last = TacStmt::Op {
-        dest: code.at,
+        dest: code.next,
         op,
         left: code.at,
         right: None,
     };
-    with_last(code, last)
+    with_result(code, last)
 }
 
-// The place of an element. The index's temporary takes it.
+// The place of an element.
 fn element(scope: &Scope, types: (Ty, Ty), base: Code, index: Code) -> Result<Code, OutOfMemory>
+    requires { index.next < most_nodes }
     ensures { IfOk result (λ code. code ≡ record {
       stmts = base.stmts ++ (index.stmts
-          ++ TacStmt.Op index.at (move_op scope.now.structs.now op.Add types.0 types.1) base.at (Some index.at) ∷ []);
-      at = index.at;
-      next = index.next;
+          ++ TacStmt.Op index.next (move_op scope.now.structs.now op.Add types.0 types.1) base.at (Some index.at) ∷ []);
+      at = index.next;
+      next = suc index.next;
     }) }
 {
     let last = TacStmt::Op {
-        dest: index.at,
+        dest: index.next,
         op: move_op(scope.structs, BinaryOp::Add, types.0, types.1),
         left: base.at,
         right: Some(index.at),
     };
-    let code = with_last(index, last)?;
+    let code = with_result(index, last)?;
     following(base.stmts, code)
 }
 
@@ -140,7 +142,7 @@ fn or_else(alloc: Global, ty: Ty, left: Code, right: Code) -> Result<Code, OutOf
     })
 }
 
-// An operator for which both values count. The second one's temporary takes the result.
+// An operator for which both values count.
 fn plain(
     scope: &Scope,
     op: BinaryOp,
@@ -148,15 +150,16 @@ fn plain(
     left: Code,
     right: Code,
 ) -> Result<Code, OutOfMemory>
+    requires { right.next < most_nodes }
     ensures { IfOk result (λ code. code ≡ record {
       stmts = left.stmts ++ (right.stmts
-          ++ binary_code scope.now.structs.now op types.0 types.1 right.at left.at right.at ∷ []);
-      at = right.at;
-      next = right.next;
+          ++ binary_code scope.now.structs.now op types.0 types.1 right.next left.at right.at ∷ []);
+      at = right.next;
+      next = suc right.next;
     }) }
 {
-    let last = binary_code(scope.structs, op, types, right.at, left.at, right.at);
-    let code = with_last(right, last)?;
+    let last = binary_code(scope.structs, op, types, right.next, left.at, right.at);
+    let code = with_result(right, last)?;
     following(left.stmts, code)
 }
 

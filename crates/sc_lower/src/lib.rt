@@ -3,7 +3,6 @@
 
 mod calls;
 mod code;
-mod copies;
 mod expr;
 mod function;
 mod heap;

@@ -5,12 +5,14 @@ ghost use Rattle.sc_lower.specs.Prelude.{lowered_function, lowered_program, lowe
 ghost use Rattle.sc_base.specs.Prelude.{most_compartments};
 ghost use Rattle.std.specs.Prelude.{◌≡◌, ◌<◌, map, IfOk};
 
-use crate::copies::{copy_globals, copy_interfaces, copy_structs};
 use crate::function::lower_function;
 use sc_base::OutOfMemory;
 use sc_core::{Program, ProgramTree, TypedFunction, TypedSection, TypedStruct};
 use sc_event::{CompId, Interfaces};
-use sc_tac::{Tac, TacFn, TacFns, TacSection, TacSections, TacTree};
+use sc_tac::{
+    Tac, TacFn, TacFns, TacSection, TacSections, TacTree, copy_globals, copy_interfaces,
+    copy_structs,
+};
 use std::alloc::Global;
 
 fn lower_functions(

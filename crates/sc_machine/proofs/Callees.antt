@@ -12,7 +12,7 @@ use Rattle.sc_image.proofs.Words.{comp_found, in_code, no_export, some_is}
 use Rattle.std.proofs.lemmas.List.Quantifiers.{position-Some}
 use Rattle.sc_image.proofs.Enters.{few_params}
 use Rattle.sc_base.proofs.Lists.{position_of_only}
-use Rattle.sc_image.specs.declared.parts.ImportPart.{ImportPart}
+use Rattle.sc_image.specs.Prelude.{ImportPart}
 
 module _ (image : ImageParts) (state : MachineState) (target : ℕ) where
   linked : (rd : ℕ) → rd ≡ ra → jump_outside image state rd target ≡

@@ -27,9 +27,9 @@ pub use Rattle.sc_image.specs.Prelude.{entered_export}
 pub use Rattle.sc_image.specs.Prelude.{export_called, exported_by, gate, initial_globals, leaves, machine}
 pub use Rattle.sc_image.specs.Prelude.{may_call_export}
 pub use Rattle.sc_image.specs.Prelude.{may_input, may_output, most_globals, export_params, ra, reg, on_return}
-pub use Rattle.sc_image.specs.Prelude.{stack_size}
+pub use Rattle.sc_image.specs.Prelude.{run, stack_size}
 pub use Rattle.sc_image.specs.Prelude.{stack_top, stack_tops, step, stopped, stops_or, stretch}
-unfoldable pub use Rattle.sc_image.specs.Prelude.{are_data, execute_by, run, start_memory, word_at}
+unfoldable pub use Rattle.sc_image.specs.Prelude.{are_data, execute_by, run_by, start_memory, word_at}
 pub use Rattle.sc_image.specs.declared.parts.CompPart.{CompPart}
 pub use Rattle.sc_gate.specs.Waiting.{Waiting, crossing_of}
 pub use Rattle.sc_machine.specs.Prelude.{AreCallees, CanRun, ImageParts, IsCallee, active_in, at, outcome_of, state_in}

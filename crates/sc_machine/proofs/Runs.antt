@@ -3,8 +3,10 @@ use Rattle.sc_machine.proofs.Common.{Bool, Err, Goes, ImageParts, IsTrue, List, 
 use Rattle.sc_machine.proofs.Common.{MachineRun}
 use Rattle.sc_machine.proofs.Common.{Some, MachineState, Traps, [], add-zero, add_assoc, ap, continued, false≢true}
 use Rattle.sc_machine.proofs.Common.{fold}
-use Rattle.sc_machine.proofs.Common.{is_ok, length, machine, outcome_of, refl, run, run_goes, run_more, run_traps, step}
-use Rattle.sc_machine.proofs.Common.{stopped, stops_or, suc, sum, sym, unwrap_or, ℕ, ◌++◌, ◌+◌, ◌<◌, ◌∙◌, ◌∷◌, ◌≡◌}
+use Rattle.sc_machine.proofs.Common.{is_ok, length, machine, outcome_of, refl, run, run_by, run_goes, run_more}
+use Rattle.sc_machine.proofs.Common.{run_traps}
+use Rattle.sc_machine.proofs.Common.{step, stopped, stops_or, suc, sum, sym, unwrap_or, ℕ, ◌++◌, ◌+◌, ◌<◌, ◌∙◌, ◌∷◌}
+use Rattle.sc_machine.proofs.Common.{◌≡◌}
 use Rattle.sc_base.specs.declared.stop.TrapReason.{TrapReason}
 use Rattle.sc_event.specs.declared.event.Event.{Event}
 use Rattle.sc_base.specs.declared.stop.Stop.{Stop}
@@ -34,7 +36,7 @@ module _ (image : ImageParts) (inputs : List ℕ) (events : ℕ) (state : Machin
         state = state;
         stop = unwrap_or (stopped events state.trace) StepsOut;
       }
-  unfolding run
+  unfolding run_by
   no_steps left none = rw none (no_more _)
 
   -- one of the steps that are left

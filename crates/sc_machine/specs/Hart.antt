@@ -1,14 +1,11 @@
 -- Helping: what instructions change, as the state that it stands for.
-use Rattle.sc_machine.specs.Common.{Goes, ImageParts, ByteMemory, Outcome, MachineState, Traps, start_memory, written}
+use Rattle.sc_machine.specs.Common.{Goes, ImageParts, ByteMemory, Outcome, MachineState, Traps, start_memory}
 use Rattle.std.specs.Prelude.{◌≡◌, ◌+◌, ◌<◌, ◌≤◌, ℕ, All, length, is_some, map, vec_capacity, Result, Ok, Err, OnErr}
 use Rattle.sc_base.specs.declared.stop.TrapReason.{TrapReason}
-use Rattle.sc_machine.specs.declared.hart.Core.{Core}
+use Rattle.sc_registers.specs.Registers.{at}
+use Rattle.sc_registers.specs.declared.registers.Core.{Core}
 use Rattle.sc_machine.specs.declared.hart.Hart.{Hart}
 use Rattle.sc_machine.specs.Place.{IsPlace, Site}
-
--- a state with these registers and this pc
-abbrev pub at : MachineState → Core → MachineState
-at state core = record state { regs = core.registers; pc = core.pc }
 
 -- a state in which this compartment is active, and one that has this memory, too
 abbrev pub comp_in : ℕ → MachineState → MachineState
@@ -39,17 +36,6 @@ state_in memory hart = record {
 abbrev pub outcome_of : {A : Type 0} → Result A TrapReason → MachineState → Outcome
 outcome_of (Ok _) state = Goes state
 outcome_of (Err reason) state = Traps reason
-
--- the registers with a word in one of them, and the pc at the next instruction
-abbrev pub written_at_next : Core → (rd word : ℕ) → Core
-written_at_next core rd word = record { registers = written core.registers rd word; pc = core.pc + 4 }
-
--- the address of the next instruction in one of the registers, and the pc elsewhere
-abbrev pub linked : Core → (rd target : ℕ) → Core
-linked core rd target = record { registers = written core.registers rd (core.pc + 4); pc = target }
-
-abbrev pub advanced : Core → Core
-advanced core = record { registers = core.registers; pc = core.pc + 4 }
 
 -- the active compartment and those that wait are the image's, each of its compartments has a saved sp, those with a
 -- heap have a zone, and each input that was read is in the trace

@@ -5,7 +5,7 @@ use Rattle.sc_machine.specs.Common.{gate}
 use Rattle.sc_machine.specs.Common.{may_call_export, export_params, ra, sp, written}
 use Rattle.std.specs.Prelude.{◌≡◌, ◌<◌, ◌≤◌, ℕ, suc, Bool, true, List, [], ◌∷◌, All, length, Some}
 use Rattle.sc_machine.specs.declared.calling.Callee.{Callee}
-use Rattle.sc_machine.specs.declared.hart.Core.{Core}
+use Rattle.sc_registers.specs.declared.registers.Core.{Core}
 
 -- a function that the caller may call, with the address that it begins at
 pub record IsCallee (image : ImageParts) (caller : ℕ) (callee : Callee) : Type 0 where

@@ -10,13 +10,14 @@ ghost use Rattle.sc_machine.specs.Prelude.{export_called, exported_by, may_call_
 ghost use Rattle.sc_machine.specs.Prelude.{state_in};
 ghost use Rattle.std.specs.Prelude.{◌≡◌, ◌==◌, position, ◌+◌, ◌^◌, ◌<◌, ◌≤◌, Some, IfOk, IfErr, OnErr};
 
-use crate::hart::{Core, Hart};
+use crate::hart::Hart;
 use crate::here::Here;
 use sc_base::TrapReason;
 use sc_event::{Args, CompId, Entry, Event};
 use sc_gate::{CrossEntry, clear_for_call};
 use sc_image::layout::{A0, GATE, RA, SP, comp_id, comp_of_code};
 use sc_image::{ExportPart, Image};
+use sc_registers::Core;
 use std::alloc::Global;
 
 /// A function of another compartment that may be called.

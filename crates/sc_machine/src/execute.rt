@@ -5,7 +5,6 @@ ghost use Rattle.sc_machine.specs.Prelude.{IsBacked, IsReady, LeavesSound, execu
 ghost use Rattle.sc_machine.specs.Prelude.{word_of};
 ghost use Rattle.std.specs.Prelude.{◌≡◌, ◌+◌, ◌^◌, ◌<◌, false, map, Ok, OnErr};
 
-use crate::arithmetic::{op, op_imm, shift, upper};
 use crate::environment::environment_call;
 use crate::hart::Hart;
 use crate::here::Here;
@@ -14,6 +13,7 @@ use crate::memory::{load, store};
 use crate::quick::execute_quick;
 use rv_code::{Instr, decode};
 use sc_base::TrapReason;
+use sc_registers::{op, op_imm, shift, upper};
 use sc_store::Store;
 
 /// Executes the instruction at the pc. Says whether the trace or the compartment that runs may have

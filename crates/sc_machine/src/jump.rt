@@ -7,14 +7,14 @@ ghost use Rattle.sc_machine.specs.Prelude.{jump_outside, comp_in, execute, jump,
 ghost use Rattle.std.specs.Prelude.{◌≡◌, ◌+◌, ◌^◌, ◌<◌, ℕ, List, OnErr};
 ghost use Rattle.sc_base.specs.declared.stop.TrapReason.TheVariants.{BadJump};
 
-use crate::arithmetic::compares;
 use crate::calling::call_out;
-use crate::hart::{Core, Hart};
+use crate::hart::Hart;
 use crate::here::Here;
 use crate::returning::leave;
 use rv_code::{BranchOffset, BranchOp, Immediate, JumpOffset, Reg};
 use sc_base::TrapReason;
 use sc_image::layout::GATE;
+use sc_registers::{Core, compares};
 use sc_word::add;
 
 /// Where a jump from the pc leads.

@@ -2,7 +2,6 @@
 //! they are taken, and take no memory.
 #![tactic(auto)]
 
-mod arithmetic;
 mod calling;
 mod environment;
 mod execute;

@@ -9,7 +9,7 @@ ghost use Rattle.std.specs.Prelude.{◌≡◌, ◌+◌, ◌<◌, ◌^◌, ◌≤
 ghost use Rattle.sc_image.specs.Prelude.{data_with};
 ghost use Rattle.sc_machine.specs.Regions.{HasFewGlobals, all_data, regions_of, filled_with};
 
-use crate::hart::{Core, Hart};
+use crate::hart::Hart;
 use crate::zones::Zones;
 use sc_base::OutOfMemory;
 use sc_event::CompId;
@@ -18,6 +18,7 @@ use sc_image::layout::{
     GATE, RA, SP, STACK_SIZE, ZONE_SIZE, comp_id, data_start, stack_top, zone_start,
 };
 use sc_image::{CompPart, Image};
+use sc_registers::Core;
 use sc_store::{Region, Store};
 use std::alloc::{AllocError, Global};
 

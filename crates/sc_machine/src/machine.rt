@@ -10,6 +10,7 @@ ghost use Rattle.sc_image.specs.State.{reg, saved_sp, start_memory, zone_of};
 ghost use Rattle.sc_image.specs.Machine.{run, machine, continued};
 ghost use Rattle.sc_machine.specs.Progress.{state_of, run_of};
 ghost use Rattle.sc_machine.specs.Calls.{IsCalled, loaded};
+ghost use Rattle.sc_zone.specs.Prelude.{words_at};
 
 use crate::hart::Hart;
 use crate::here::Here;
@@ -21,7 +22,6 @@ use sc_base::Stop;
 use sc_event::{CompId, Event};
 use sc_image::Image;
 use sc_store::Store;
-use sc_zone::Span;
 use sqlite_items::Items;
 use std::alloc::Global;
 use std::fmt;
@@ -211,11 +211,11 @@ impl<S: Store> Machine<S> {
         Some(self.memory.load8(at) as u8)
     }
 
-    /// The live blocks of the compartment's zone.
-    pub(crate) fn blocks_of(&self, comp: CompId) -> &[Span]
-        ensures { result.now ≡ zone_of (state_of S.bytes self.now) comp }
+    /// How many words the block has that starts at a place of the compartment's zone.
+    pub(crate) fn words_of(&self, comp: CompId, place: u32) -> Option<u32>
+        ensures { result ≡ words_at (zone_of (state_of S.bytes self.now) comp) place }
     {
-        self.hart.zones.blocks(comp)
+        self.hart.zones.words_at(comp, place)
     }
 
     /// The stack pointer that a compartment gets at its next call.

@@ -5,10 +5,10 @@ ghost use Rattle.sc_machine.specs.Prelude.{HasBytes, IsBacked, MachineState, act
 ghost use Rattle.sc_machine.specs.Prelude.{load_size, outcome_of, refused, start_memory, store, store_size, with_bytes};
 ghost use Rattle.std.specs.Prelude.{◌≡◌, ◌+◌, ◌^◌, ◌<◌, ◌≤◌, ℕ, length, OnErr, OnSome, IfNone, IfSome};
 
-use crate::hart::Core;
 use crate::here::Here;
 use rv_code::{LoadOp, Reg, StoreOp};
 use sc_base::TrapReason;
+use sc_registers::Core;
 use sc_store::Store;
 
 /// Loads from an address into a register.

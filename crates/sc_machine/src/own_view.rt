@@ -6,11 +6,11 @@ ghost use Rattle.sc_image.specs.Layout.{are_data};
 ghost use Rattle.sc_image.specs.Own.{data_of};
 ghost use Rattle.sc_image.specs.State.{saved_sp, zone_of};
 ghost use Rattle.sc_machine.specs.Progress.{state_of};
+ghost use Rattle.sc_zone.specs.Prelude.{words_at};
 
 use crate::Machine;
 use sc_event::CompId;
 use sc_store::Store;
-use sc_zone::Span;
 use std::marker::Model;
 
 /// What belongs to a compartment of a machine, whether its code runs or not. Contracts see the
@@ -51,11 +51,12 @@ impl<'a, S: Store> OwnView<'a, S> {
         self.machine.byte_of(self.comp, at)
     }
 
-    /// The live blocks of the compartment's zone, in the order of their places: none where it has no heap.
-    pub fn zone(&self) -> &[Span]
-        ensures { result.now ≡ zone_of (state_of S.bytes self.now.machine) self.now.comp }
+    /// How many words the block has that starts at a place of the compartment's zone; `None` where none does, or the
+    /// compartment has no heap.
+    pub fn words_at(&self, place: u32) -> Option<u32>
+        ensures { result ≡ words_at (zone_of (state_of S.bytes self.now.machine) self.now.comp) place }
     {
-        self.machine.blocks_of(self.comp)
+        self.machine.words_of(self.comp, place)
     }
 
     /// The stack pointer that the compartment gets at its next call.

@@ -6,12 +6,11 @@ ghost use Rattle.sc_machine.specs.Prelude.{Goes, IsBacked, IsReg, Outcome, Machi
 ghost use Rattle.sc_machine.specs.Prelude.{running};
 ghost use Rattle.std.specs.Prelude.{◌≡◌, ◌+◌, ◌^◌, ◌<◌, ℕ, List, false, IsTrue};
 
-use crate::arithmetic::{op, op_imm, shift, upper};
-use crate::hart::Core;
 use crate::here::Here;
 use crate::jump::{branch, jump_target};
 use crate::memory::{load, store};
 use rv_code::Instr;
+use sc_registers::{Core, op, op_imm, shift, upper};
 use sc_store::Store;
 
 /// Executes an instruction, if that emits nothing and goes on in the own code, and says whether it

@@ -5,12 +5,13 @@ ghost use Rattle.sc_machine.specs.Prelude.{IsReady, ByteMemory, StaysSound, a0, 
 ghost use Rattle.sc_machine.specs.Prelude.{state_in};
 ghost use Rattle.std.specs.Prelude.{◌≡◌, Some, None, if◌then◌else◌, slice_index};
 
-use crate::hart::{Core, Hart};
+use crate::hart::Hart;
 use crate::here::Here;
 use sc_event::{CompId, Entry, Event};
 use sc_gate::clear_for_ret;
 use sc_image::Image;
 use sc_image::layout::{A0, SP};
+use sc_registers::Core;
 
 /// Returns to the latest caller that waits. Where none does, the run ends.
 pub(crate) fn leave(here: &Here<'_>, hart: &mut Hart)

@@ -1,14 +1,14 @@
 //! The zones of the compartments that have a heap.
 #![tactic(auto)]
 
-ghost use Rattle.sc_zone.specs.Prelude.{least_free, starts_at, taken, without_span, zone_words};
+ghost use Rattle.sc_zone.specs.Prelude.{least_free, starts_at, taken, without_span, words_at, zone_words};
 ghost use Rattle.std.specs.Prelude.{IfOk, IfSome, IsTrue, [], false, is_some, map, slice_index_or, slice_set};
 ghost use Rattle.std.specs.Prelude.{unwrap_or, ◌≡◌, ◌≤◌};
 
 use sc_base::OutOfMemory;
 use sc_event::CompId;
 use sc_image::CompPart;
-use sc_zone::{Span, Zone};
+use sc_zone::Zone;
 use std::alloc::Global;
 use std::marker::Model;
 
@@ -44,13 +44,13 @@ impl Zones {
         Ok(Zones { each })
     }
 
-    /// The live blocks of a compartment's zone: none where it has no zone.
-    pub fn blocks(&self, comp: CompId) -> &[Span]
-        ensures { result.now ≡ slice_index_or self.now.blocks comp [] }
+    /// How many words the block has that starts at a place of a compartment's zone.
+    pub fn words_at(&self, comp: CompId, place: u32) -> Option<u32>
+        ensures { result ≡ words_at (slice_index_or self.now.blocks comp []) place }
     {
         match self.each.get(comp.number() as usize) {
-            Some(Some(zone)) => zone.spans(),
-            _ => &[],
+            Some(Some(zone)) => zone.words_at(place),
+            _ => None,
         }
     }
 

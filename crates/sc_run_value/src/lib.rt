@@ -17,4 +17,4 @@ pub use arguments::Arguments;
 pub use at_once::{holds, is_assigned};
 pub use expressions::{evaluate, evaluate_all, variable_at};
 pub use standing::Scope;
-pub use words::is_true;
+pub use words::{applied_one, is_true, on_words};

@@ -2,10 +2,11 @@
 use Rattle.sc_tac.proofs.Common.{Bool, Each, IsAssignment, IsClear, IsFunction, List, None, Option, PlacesAreClear}
 use Rattle.sc_tac.proofs.Common.{Point, Share, Some, Span, TacFnTree, Within, [], ap, arith, drop, eq-eqb, false}
 use Rattle.sc_tac.proofs.Common.{from_here, function_points, get_or, has_call, if◌then◌else◌, interval_of, intervals_of}
-use Rattle.sc_tac.proofs.Common.{is_one, is_used, map, one_or_none, or_first, or_left, or_right, range_with_len, refl}
-use Rattle.sc_tac.proofs.Common.{slice_get, span_from, subst, suc, take, true, zero, ℕ, ◌+◌, ◌-◌, ◌<◌, ◌==◌, ◌||◌, ◌∙◌}
-use Rattle.sc_tac.proofs.Common.{◌∷◌, ◌≡◌, ◌≤◌}
+use Rattle.sc_tac.proofs.Common.{is_one, is_used, map, one_or_none, or_left, or_right, point_behind, range_with_len}
+use Rattle.sc_tac.proofs.Common.{refl, slice_get, span_from, span_of, subst, suc, take, true, zero, ℕ, ◌+◌, ◌-◌, ◌<◌}
+use Rattle.sc_tac.proofs.Common.{◌==◌, ◌||◌, ◌∙◌, ◌∷◌, ◌≡◌, ◌≤◌}
 use Rattle.std.proofs.lemmas.Option.{same_Some, slice_get-get_or}
+use Rattle.std.specs.Option.{unwrap_or}
 use Rattle.sc_tac.specs.declared.place.Place.{Place}
 use Rattle.sc_tac.proofs.Owned.{OwnPoint, points_own}
 use Rattle.std.proofs.lemmas.Map.Keys.{any_passes_from_place}
@@ -80,8 +81,8 @@ pub within : (xs : List Point) (t k : ℕ) (x : Point) → slice_get xs k ≡ So
     Within (interval_of xs t) k
 within xs t k x at used =
     (let c = covered t 0 k xs x at used in
-    let first : (or_first (span_from t 0 xs)).first ≡ c.some.first = ap (λ s. (or_first s).first) c.is in
-    let last : (or_first (span_from t 0 xs)).last ≡ c.some.last = ap (λ s. (or_first s).last) c.is in
+    let first : (span_of xs t).first ≡ c.some.first = ap (λ s. (unwrap_or s (point_behind xs t)).first) c.is in
+    let last : (span_of xs t).last ≡ c.some.last = ap (λ s. (unwrap_or s (point_behind xs t)).last) c.is in
     record { begun = omega (arith, first, c.begun); lasts = omega (arith, last, c.lasts) })
 
 get_dropped : {A : Type 0} (xs : List A) (n k m : ℕ) → m ≡ n + k → slice_get (drop n xs) k ≡ slice_get xs m
@@ -146,7 +147,7 @@ module _ (f : TacFnTree) (places : List Place) (rules : IsFunction f) (assigned 
     over_calls = λ t calls live.
         (let w = within (function_points f) t k x at (live_used t live) in
         assigned.over_calls t (interval_of (function_points f) t) (its t (live_used t live))
-        (call_found (function_points f) (or_first (span_from t 0 (function_points f))) k x at calls w.begun w.lasts));
+        (call_found (function_points f) (span_of (function_points f) t) k x at calls w.begun w.lasts));
   }
 
 pub places_are_clear : PlacesAreClear

@@ -25,13 +25,13 @@ pub use Rattle.sc_tac.specs.Prelude.{has_elements, has_none, has_operands, has_w
 pub use Rattle.sc_tac.specs.Prelude.{in_next, interval_of, intervals_of, is_assigned_first, is_entered, is_one}
 pub use Rattle.sc_tac.specs.Prelude.{is_unsigned, is_used, known, leaves_heap, live_across, live_at_start, live_before}
 pub use Rattle.sc_tac.specs.Prelude.{loop_points, names_own_global, names_own_object, names_own_temps, no_temps}
-pub use Rattle.sc_tac.specs.Prelude.{nothing_ahead, nothing_live, one_or_none, op_does, operated, or_first, part_ahead}
-pub use Rattle.sc_tac.specs.Prelude.{part_lives, passes_few, plain, plain_points, point, points, read, read_all}
-pub use Rattle.sc_tac.specs.Prelude.{reading_step, readings, received, return_does, returns_result, round_first}
-pub use Rattle.sc_tac.specs.Prelude.{row_first, row_fresh, row_points, same_entry, scripted_code_by}
-pub use Rattle.sc_tac.specs.Prelude.{scripted_code_meaning, second, some_hold, span_from, start_of, stmt_branches}
-pub use Rattle.sc_tac.specs.Prelude.{stmt_does, stmt_weight, store_does, stray_break, stray_continue, trail, trail_step}
-pub use Rattle.sc_tac.specs.Prelude.{uses_heap, weight, weight_step, with_parts, with_temp}
+pub use Rattle.sc_tac.specs.Prelude.{nothing_ahead, nothing_live, one_or_none, op_does, operated, part_ahead}
+pub use Rattle.sc_tac.specs.Prelude.{part_lives, passes_few, plain, plain_points, point, point_behind, points, read}
+pub use Rattle.sc_tac.specs.Prelude.{read_all, reading_step, readings, received, return_does, returns_result}
+pub use Rattle.sc_tac.specs.Prelude.{round_first, row_first, row_fresh, row_points, same_entry, scripted_code_by}
+pub use Rattle.sc_tac.specs.Prelude.{scripted_code_meaning, second, some_hold, span_from, span_of, start_of}
+pub use Rattle.sc_tac.specs.Prelude.{stmt_branches, stmt_does, stmt_weight, store_does, stray_break, stray_continue}
+pub use Rattle.sc_tac.specs.Prelude.{trail, trail_step, uses_heap, weight, weight_step, with_parts, with_temp}
 pub use Rattle.sc_tac.specs.declared.function.TacFnTree.{TacFnTree}
 pub use Rattle.sc_tac.specs.declared.program.TacSection.{TacSection}
 pub use Rattle.sc_tac.specs.declared.program.TacTree.{TacTree}

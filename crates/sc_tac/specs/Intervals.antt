@@ -1,7 +1,8 @@
 -- The live intervals of temporaries: from the first point of a function's code at which one is used to the last.
-use Rattle.std.specs.Prelude.{◌≡◌, ◌≤◌, ℕ, suc, ◌-◌, Bool, ◌||◌, if◌then◌else◌, List, [], ◌∷◌, map, take, drop, Option}
-use Rattle.std.specs.Prelude.{None, Some, slice_get, IsTrue}
+use Rattle.std.specs.Prelude.{Bool, IsTrue, List, None, Option, Some, [], drop, if◌then◌else◌, length, map, slice_get}
+use Rattle.std.specs.Prelude.{suc, take, ℕ, ◌+◌, ◌-◌, ◌||◌, ◌∷◌, ◌≡◌, ◌≤◌}
 use Rattle.std.specs.List.{list_any, range_with_len}
+use Rattle.std.specs.Option.{unwrap_or}
 use Rattle.sc_tac.specs.declared.function.TacFnTree.{TacFnTree}
 use Rattle.sc_tac.specs.declared.interval.Interval.{Interval}
 use Rattle.sc_tac.specs.Flow.{is_one}
@@ -29,10 +30,13 @@ span_from t at [] = None
 span_from t at (x ∷ xs) =
     if is_used t x then Some (from_here at (span_from t (suc at) xs)) else span_from t (suc at) xs
 
--- one that is never used has only the first point
-abbrev pub or_first : Option Span → Span
-or_first None = record { first = 0; last = 0 }
-or_first (Some span) = span
+-- a point behind the code that is of one temporary alone
+abbrev pub point_behind : List Point → ℕ → Span
+point_behind points t = let at = length points + t in record { first = at; last = at }
+
+-- where a temporary is used; one that never is has a point behind the code
+abbrev pub span_of : List Point → ℕ → Span
+span_of points t = unwrap_or (span_from t 0 points) (point_behind points t)
 
 -- a function is called at a point of a span
 abbrev pub has_call : List Point → Span → Bool
@@ -43,7 +47,7 @@ as_interval t points span =
     record { temp = t; first = span.first; last = span.last; spans_call = has_call points span }
 
 abbrev pub interval_of : List Point → ℕ → Interval
-interval_of points t = as_interval t points (or_first (span_from t 0 points))
+interval_of points t = as_interval t points (span_of points t)
 
 -- the least intervals of a function's temporaries, in the order of their numbers
 abbrev pub intervals_of : TacFnTree → List Interval

@@ -15,8 +15,8 @@ pub use Rattle.sc_tac.specs.Functions.{IsFunction, counts_elements, enters_by_wo
 pub use Rattle.sc_tac.specs.Functions.{has_operands, has_words, is_machine_word, leaves_heap, names_own_object}
 pub use Rattle.sc_tac.specs.Functions.{names_own_temps, passes_few, passes_words, returns_result, some_hold}
 pub use Rattle.sc_tac.specs.Functions.{stray_break, stray_continue, takes_two, uses_heap}
-pub use Rattle.sc_tac.specs.Intervals.{AreCovering, AreIntervals, Span, Within, from_here, has_call, interval_of}
-pub use Rattle.sc_tac.specs.Intervals.{intervals_of, is_used, or_first, span_from}
+pub use Rattle.sc_tac.specs.Intervals.{AreCovering, AreIntervals, Span, Within, as_interval, from_here, has_call}
+pub use Rattle.sc_tac.specs.Intervals.{interval_of, intervals_of, is_used, point_behind, span_from, span_of}
 pub use Rattle.sc_tac.specs.Laws.{CodeObeys, WrappedCodeAgrees}
 pub use Rattle.sc_tac.specs.MachineCode.{IsCode, is_address, is_jal, is_linkable}
 pub use Rattle.sc_tac.specs.Parts.{all_true, everywhere, one_or_none, parts, temps_read, with_parts}

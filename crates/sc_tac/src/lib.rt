@@ -2,6 +2,7 @@
 #![tactic(auto)]
 
 mod branches;
+mod copies;
 mod frame;
 mod function;
 mod heap;
@@ -14,6 +15,7 @@ mod registers;
 mod stmt;
 mod weigh;
 
+pub use copies::{copy_globals, copy_interfaces, copy_structs};
 pub use frame::{Frame, FrameTree, Offsets};
 pub use function::{ObjectCells, TacFn, TacFnTree, TacFns};
 pub use interval::{Interval, Intervals};

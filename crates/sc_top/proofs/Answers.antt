@@ -1,27 +1,24 @@
 -- What an answer says, from what was read.
-use Rattle.sc_top.proofs.Common.{Accepts, Answers, Check, Command, Compile, Exec, Explain, Fails, Failure, FindsBad}
-use Rattle.sc_top.proofs.Common.{FindsBadLine, FindsUnfit, HasExplanation, HoldsOfText, IsBadAt, IsPolicyRead, Judge}
-use Rattle.sc_top.proofs.Common.{PolicyRead, drop, intake, lines_of, min}
-use Rattle.sc_top.proofs.Common.{IsAnswer, IsErrOf, IsGood, IsGoodText, IsImage, IsInput, IsOutput}
-use Rattle.sc_top.proofs.Common.{IsTextOutput, IsUndisturbed, IsUnfit, IsWhole, IsWithin, IsWithinLimit, List}
-use Rattle.sc_top.proofs.Common.{Make, Meaning, None, Option, ProgramTree, Refusal, Refuses, Result, Run, RunOptions}
-use Rattle.sc_top.proofs.Common.{SameAnswer, Says, Some, Status, Takes, Traffic, ap, append-nil, arith, bad}
-use Rattle.sc_top.proofs.Common.{built_image, cause_in, cause_number, read_cause, inl, inr}
-use Rattle.sc_top.proofs.Common.{length}
-use Rattle.sc_top.proofs.Common.{length-append, limit_of, none-some, option_and_then, refl, status_by, subst, sym}
-use Rattle.sc_top.proofs.Common.{too_large, ℕ, ⊎_elim, ◌++◌, ◌+◌, ◌∙◌, ◌≡◌, ◌≤◌, ◌⊎◌}
-use Rattle.sc_top.specs.Answer.{HasBadLineIn, IsBadIn, IsGoodIn}
-use Rattle.sc_top.specs.Command.{Image, Intake, Nothing, PolicyAndText, Text}
-use Rattle.sc_top.specs.Large.{large_in}
-use Rattle.std.specs.Option.{option_map}
+use Rattle.sc_top.proofs.Common.{Accepts, Answers, Check, Command, Compile, Exec, Explain, Fails, Failure}
+use Rattle.sc_top.proofs.Common.{HasExplanation, IsAnswer, IsBadAt, IsErrOf, IsGood, IsGoodText, IsImage, IsInput}
+use Rattle.sc_top.proofs.Common.{IsObjectOutput, IsOutput, IsPolicyRead, IsTextOutput, IsUndisturbed, IsWhole, IsWithin}
+use Rattle.sc_top.proofs.Common.{IsWithinLimit, Judge, List, Make, Meaning, None, Object, Option, PolicyRead}
+use Rattle.sc_top.proofs.Common.{ProgramTree, Result, Run, RunOptions, SameAnswer, Says, Some, Status, Takes, Traffic}
+use Rattle.sc_top.proofs.Common.{ap, append-nil, arith, built_image, comp_named, drop, inl, inr, intake, length}
+use Rattle.sc_top.proofs.Common.{length-append, limit_of, lines_of, none-some, refl, section_of, status_by, subst, sym}
+use Rattle.sc_top.proofs.Common.{ℕ, ⊎_elim, ◌++◌, ◌+◌, ◌∙◌, ◌≡◌, ◌≤◌, ◌⊎◌, IsSome}
 use Rattle.sc_lex.specs.declared.refusal.Phase.{Phase}
 use Rattle.sc_lex.specs.declared.refusal.Phase.TheVariants.{Syntax}
-use Rattle.sc_image.proofs.Whole.{is_read_again}
+use Rattle.sc_object.specs.Prelude.{BytesNameOneList, OneFirstBad}
+use Rattle.sc_top.specs.Answer.{HasRead}
+use Rattle.sc_top_words.specs.declared.command.Command.TheVariants as commands
+use Rattle.sc_top_words.specs.declared.command.ObjectOptions.{ObjectOptions}
 use Rattle.sc_top.specs.declared.failure.Failure.TheVariants as failure
 use Rattle.sc_top.specs.declared.status.Status.TheVariants as status
-use Rattle.sc_top.specs.declared.status.TooLarge.{TooLarge}
+use Rattle.sc_top.proofs.Causes.{Cause, good_or_cause, nothing_fails, one_cause, same_by, same_some}
 use Rattle.sc_top.proofs.Large.{fits_of}
 use Rattle.sc_top.proofs.Lengths.{image_is_short}
+use Rattle.sc_top.proofs.Outputs.{asks_none}
 
 -- words that are no command are answered so
 pub no_command_by : {A : Type 0} (r : Result A Failure) → IsErrOf r failure.Usage ⊎ IsErrOf r failure.OutOfMemory →
@@ -55,27 +52,20 @@ input_at (Some limit) text bytes after input =
 -- a command that reads nothing, so that its output is the same for all bytes
 record Reads (c : Command) : Type 0 where
   pub same : (bytes other text : List ℕ) → IsOutput c bytes text → IsOutput c other text
-  pub refuses : (bytes : List ℕ) (refusal : Refusal) → Refuses c bytes refusal → ⊥
-  pub unfit : (bytes : List ℕ) (fault : TooLarge) → FindsUnfit c bytes fault → ⊥
-  pub bad : (bytes : List ℕ) (cause : ℕ) → FindsBad c bytes cause → ⊥
-  pub bad_line : (bytes : List ℕ) (line : ℕ) → FindsBadLine c bytes line → ⊥
+  pub none : (bytes : List ℕ) (s : Status) → Cause (intake c) c bytes s → ⊥
 
 reads_nothing : (c : Command) → limit_of c ≡ None → Reads c
 reads_nothing Check none = absurd (none-some 8388608 (sym none))
 reads_nothing (Meaning options) none = absurd (none-some 8388608 (sym none))
 reads_nothing Compile none = absurd (none-some 1048576 (sym none))
+reads_nothing (Object options) none = absurd (none-some 1048576 (sym none))
+reads_nothing commands.Link none = absurd (none-some 67108864 (sym none))
 reads_nothing (Run options) none = absurd (none-some 1048576 (sym none))
 reads_nothing (Explain options show) none = absurd (none-some 1048576 (sym none))
 reads_nothing (Judge options) none = absurd (none-some 1048576 (sym none))
 reads_nothing (Exec options) none = absurd (none-some 67108864 (sym none))
 reads_nothing (Make options) none =
-    record {
-      same = λ bytes other text o. o;
-      refuses = λ bytes r h. h;
-      unfit = λ bytes fault h. h;
-      bad = λ bytes cause h. h;
-      bad_line = λ bytes line h. h;
-    }
+    record { same = λ bytes other text o. o; none = λ bytes s h. nothing_fails (Make options) bytes s h }
 
 within_none : (limit : Option ℕ) (text : List ℕ) → limit ≡ None → IsWithinLimit limit text
 within_none None text none = tt
@@ -97,61 +87,60 @@ answered c t text s says is calm = go s says where
       IsInput (limit_of c) (Some text) t.left_after bytes
   input_of bytes input = subst (λ l. IsInput (limit_of c) l t.left_after bytes) is input
 
+  caused : (s : Status) → HasRead c t (λ bytes. Cause (intake c) c bytes s) →
+      IsWithin c text × Cause (intake c) c text s
+  caused s h =
+      read_at c text t.left_after h.bytes (λ bytes. Cause (intake c) c bytes s) (input_of h.bytes h.input) h.holds
+      (λ none o. absurd ((reads_nothing c none).none h.bytes s o))
+
   go : (s : Status) → Says c t s → IsAnswer c text s ⊎ (s ≡ status.OutOfMemory)
   go status.Done h =
       inl (read_at c text t.left_after h.bytes (λ bytes. (out : List ℕ) × IsOutput c bytes out)
       (input_of h.bytes h.input) (h.holds.text, h.holds.output)
       (λ none o. (o.0, (reads_nothing c none).same h.bytes text o.0 o.1)))
   go status.Usage h = absurd h
-  go (status.Refused refusal) h =
-      inl (read_at c text t.left_after h.bytes (λ bytes. Refuses c bytes refusal) (input_of h.bytes h.input) h.holds
-      (λ none o. absurd ((reads_nothing c none).refuses h.bytes refusal o)))
-  go (status.TooLarge fault) h =
-      inl (read_at c text t.left_after h.bytes (λ bytes. FindsUnfit c bytes fault) (input_of h.bytes h.input) h.holds
-      (λ none o. absurd ((reads_nothing c none).unfit h.bytes fault o)))
+  go (status.Refused refusal) h = inl (caused (status.Refused refusal) h)
+  go (status.TooLarge fault) h = inl (caused (status.TooLarge fault) h)
   go (status.TooLong limit) h =
       let read : Takes (Some text) t.left_after h.1.bytes = subst (λ l. Takes l t.left_after h.1.bytes) is h.1.read in
       let long = h.1.long in
       inl (h.0, omega (arith, long, as_long text h.1.bytes t.left_after read))
-  go (status.BadImage cause) h =
-      inl (read_at c text t.left_after h.bytes (λ bytes. FindsBad c bytes cause) (input_of h.bytes h.input) h.holds
-      (λ none o. absurd ((reads_nothing c none).bad h.bytes cause o)))
-  go (status.BadPolicy line) h =
-      inl (read_at c text t.left_after h.bytes (λ bytes. FindsBadLine c bytes line) (input_of h.bytes h.input) h.holds
-      (λ none o. absurd ((reads_nothing c none).bad_line h.bytes line o)))
+  go (status.BadImage cause) h = inl (caused (status.BadImage cause) h)
   go status.ReadFault h = absurd (calm.reads h)
   go status.WriteFault h = absurd (calm.writes h.0)
   go status.OutOfMemory h = inr refl
+  go (status.BadObject index cause) h = inl (caused (status.BadObject index cause) h)
+  go (status.BadJoin fault) h = inl (caused (status.BadJoin fault) h)
+  go (status.NoSection name) h = inl (caused (status.NoSection name) h)
+  go (status.BadPolicy line) h = inl (caused (status.BadPolicy line) h)
 
 -- a command that reads nothing has its output, unless memory runs out or the outside fails
 pub made : (c : Command) (t : Traffic) (s : Status) → Says c t s → limit_of c ≡ None → IsUndisturbed t →
     (s ≡ status.Done) ⊎ (s ≡ status.OutOfMemory)
 made c t s says none calm = go s says where
+  never : (s : Status) → HasRead c t (λ bytes. Cause (intake c) c bytes s) →
+      (s ≡ status.Done) ⊎ (s ≡ status.OutOfMemory)
+  never s h = absurd ((reads_nothing c none).none h.bytes s h.holds)
+
   go : (s : Status) → Says c t s → (s ≡ status.Done) ⊎ (s ≡ status.OutOfMemory)
   go status.Done h = inl refl
   go status.Usage h = absurd h
-  go (status.Refused refusal) h = absurd ((reads_nothing c none).refuses h.bytes refusal h.holds)
-  go (status.TooLarge fault) h = absurd ((reads_nothing c none).unfit h.bytes fault h.holds)
+  go (status.Refused refusal) h = never (status.Refused refusal) h
+  go (status.TooLarge fault) h = never (status.TooLarge fault) h
   go (status.TooLong limit) h = absurd (none-some limit (sym none ∙ h.0))
-  go (status.BadImage cause) h = absurd ((reads_nothing c none).bad h.bytes cause h.holds)
-  go (status.BadPolicy line) h = absurd ((reads_nothing c none).bad_line h.bytes line h.holds)
+  go (status.BadImage cause) h = never (status.BadImage cause) h
   go status.ReadFault h = absurd (calm.reads h)
   go status.WriteFault h = absurd (calm.writes h.0)
   go status.OutOfMemory h = inr refl
+  go (status.BadObject index cause) h = never (status.BadObject index cause) h
+  go (status.BadJoin fault) h = never (status.BadJoin fault) h
+  go (status.NoSection name) h = never (status.NoSection name) h
+  go (status.BadPolicy line) h = never (status.BadPolicy line) h
 
 pub image_within : (bytes : List ℕ) → IsImage bytes → length bytes ≤ 67108864
 image_within bytes is =
     let are = is.bytes_are in
     subst (λ b. length b ≤ 67108864) (sym are.are) (image_is_short are.version is.image is.well_formed)
-
--- the bytes of an image have no cause for being none
-image_bad : (bytes : List ℕ) (cause : ℕ) → IsImage bytes → cause_in bytes ≡ Some cause → ⊥
-image_bad bytes cause is b =
-    let good = ap read_cause (is_read_again is.image bytes is.well_formed is.bytes_are) in
-    none-some cause (ap (λ found. option_map cause_number found) (sym good) ∙ b)
-
-same_some : {A : Type 0} (option : Option A) (x y : A) → option ≡ Some x → option ≡ Some y → x ≡ y
-same_some option x y e f = let p = sym e ∙ f in cc p
 
 -- within the limit, bytes are not too long
 not_both : (limit : Option ℕ) (text : List ℕ) (most : ℕ) → IsWithinLimit limit text →
@@ -164,70 +153,72 @@ not_both (Some l) text most low long =
 -- WHAT AN OUTPUT SAYS
 
 -- a text with an output is good
-good_text : (c : Command) (text out : List ℕ) → IsTextOutput c text out → IsGoodText c text
-good_text c text out o = record {
+good_text : (c : Command) → section_of c ≡ None → (text out : List ℕ) → IsTextOutput c text out → IsGoodText c text
+good_text c plain text out o = record {
   program = o.program;
   accepted = o.accepted;
+  there = asks_none c plain o.program;
   fits = λ compiled. fits_of _ _ o.image (o.compiled compiled).compiled;
 }
 
-explained_text : (c : Command) (options : RunOptions) (text : List ℕ) → HasExplanation options text → IsGoodText c text
-explained_text c options text has = record {
+explained_text : (c : Command) → section_of c ≡ None → (options : RunOptions) (text : List ℕ) →
+    HasExplanation options text → IsGoodText c text
+explained_text c plain options text has = record {
   program = has.source.program;
+  there = asks_none c plain has.source.program;
   accepted = subst (λ bytes. Accepts bytes has.source.program) has.whole has.parts.accepted;
   fits = λ compiled. fits_of _ (built_image _) has.explained.image has.explained.compiled;
 }
 
+object_text : (options : ObjectOptions) (text out : List ℕ) → IsObjectOutput options.section text out →
+    IsGoodText (Object options) text
+object_text options text out o = record {
+  program = o.program;
+  accepted = o.accepted;
+  there = λ name is.
+      let same : options.section ≡ name = cc is in
+      subst (λ n. IsSome (comp_named o.program.interfaces n)) same (subst IsSome (sym o.named) refl);
+  fits = λ _. fits_of _ (built_image o.program) o.is.image o.is.compiled;
+}
+
 -- input with an output is good
 good_output : (c : Command) (bytes out : List ℕ) → IsOutput c bytes out → IsGood c bytes
-good_output Check bytes out o = good_text Check bytes out o
-good_output (Meaning options) bytes out o = good_text (Meaning options) bytes out o
-good_output Compile bytes out o = good_text Compile bytes out o
-good_output (Run options) bytes out o = good_text (Run options) bytes out o
-good_output (Explain options show) bytes out o = explained_text (Explain options show) options bytes o.has
+good_output Check bytes out o = good_text Check refl bytes out o
+good_output (Meaning options) bytes out o = good_text (Meaning options) refl bytes out o
+good_output Compile bytes out o = good_text Compile refl bytes out o
+good_output (Object options) bytes out o = object_text options bytes out o
+good_output commands.Link bytes out o = o.can
+good_output (Run options) bytes out o = good_text (Run options) refl bytes out o
+good_output (Explain options show) bytes out o = explained_text (Explain options show) refl options bytes o.has
 good_output (Judge options) bytes out o = record {
   read = o.read;
   is = o.is;
-  holds = explained_text (Judge options) options (drop o.read.rest bytes) o.has;
+  holds = explained_text (Judge options) refl options (drop o.read.rest bytes) o.has;
 }
 good_output (Exec options) bytes out o = o.read
 good_output (Make options) bytes out o = tt
 
--- a text of which both hold
-record BothHold (P Q : List ℕ → Type 0) : Type 0 where
-  pub text : List ℕ
-  pub one : P text
-  pub other : Q text
+-- What an answer is: an output, more bytes than the limit, or a cause.
+data Answered (c : Command) (text : List ℕ) (s : Status) : Type 0 where
+  WithOutput : s ≡ status.Done → IsWithin c text → (out : List ℕ) → IsOutput c text out → Answered c text s
+  WithMore : (limit : ℕ) → s ≡ status.TooLong limit → (limit_of c ≡ Some limit) × (limit + 1 ≤ length text) →
+      Answered c text s
+  WithCause : IsWithin c text → Cause (intake c) c text s → Answered c text s
 
--- a text isn't taken for an image
-text_or_image : (i : Intake) (bytes : List ℕ) (P : List ℕ → Type 0) (cause : ℕ) → HoldsOfText i bytes P →
-    IsBadIn i bytes cause → ⊥
-text_or_image (Text limit) bytes P cause p b = b
-text_or_image (PolicyAndText limit) bytes P cause p b = b
-text_or_image (Image limit) bytes P cause p b = p
-text_or_image Nothing bytes P cause p b = p
-
-policy_or_image : (i : Intake) (bytes : List ℕ) (cause line : ℕ) → IsBadIn i bytes cause → HasBadLineIn i bytes line → ⊥
-policy_or_image (Text limit) bytes cause line b l = b
-policy_or_image (PolicyAndText limit) bytes cause line b l = b
-policy_or_image (Image limit) bytes cause line b l = l
-policy_or_image Nothing bytes cause line b l = b
-
-one_cause : (i : Intake) (bytes : List ℕ) (n m : ℕ) → IsBadIn i bytes n → IsBadIn i bytes m → n ≡ m
-one_cause (Text limit) bytes n m a b = absurd a
-one_cause (PolicyAndText limit) bytes n m a b = absurd a
-one_cause (Image limit) bytes n m a b = same_some (cause_in bytes) n m a b
-one_cause Nothing bytes n m a b = absurd a
-
--- good input has no cause
-record SoundIn (i : Intake) (c : Command) (bytes : List ℕ) : Type 0 where
-  pub refused : (refusal : Refusal) → HoldsOfText i bytes (λ text. Fails text refusal.phase refusal.line) → ⊥
-  pub unfit : (fault : TooLarge) → HoldsOfText i bytes (λ text. IsUnfit c text fault) → ⊥
-  pub bad : (cause : ℕ) → IsBadIn i bytes cause → ⊥
-  pub bad_line : (line : ℕ) → HasBadLineIn i bytes line → ⊥
-
-abbrev Sound : Command → List ℕ → Type 0
-Sound c bytes = SoundIn (intake c) c bytes
+answer_is : (c : Command) (text : List ℕ) (s : Status) → IsAnswer c text s → Answered c text s
+answer_is c text status.Done a = WithOutput refl a.0 a.1.0 a.1.1
+answer_is c text status.Usage a = absurd a
+answer_is c text (status.Refused r) a = WithCause a.0 a.1
+answer_is c text (status.TooLarge fault) a = WithCause a.0 a.1
+answer_is c text (status.TooLong limit) a = WithMore limit refl a
+answer_is c text (status.BadImage cause) a = WithCause a.0 a.1
+answer_is c text status.ReadFault a = absurd a
+answer_is c text status.WriteFault a = absurd a
+answer_is c text status.OutOfMemory a = absurd a
+answer_is c text (status.BadObject index cause) a = WithCause a.0 a.1
+answer_is c text (status.BadJoin fault) a = WithCause a.0 a.1
+answer_is c text (status.NoSection name) a = WithCause a.0 a.1
+answer_is c text (status.BadPolicy line) a = WithCause a.0 a.1
 
 module _
     (accepted_or_refused : (text : List ℕ) (program : ProgramTree) (phase : Phase) (line : ℕ) →
@@ -240,178 +231,51 @@ module _
     one ≡ other)
     (policy_or_bad : (bytes : List ℕ) (read : PolicyRead) (line : ℕ) → IsPolicyRead bytes read →
     IsBadAt (lines_of bytes) line → ⊥)
-    (one_bad : (lines : List (List ℕ)) (one other : ℕ) → IsBadAt lines one → IsBadAt lines other → one ≡ other) where
-  -- the text is one
-  both_hold : (i : Intake) (bytes : List ℕ) (P Q : List ℕ → Type 0) → HoldsOfText i bytes P → HoldsOfText i bytes Q →
-      BothHold P Q
-  both_hold (Text limit) bytes P Q p q = record { text = bytes; one = p; other = q }
-  both_hold (PolicyAndText limit) bytes P Q p q =
-      let same = one_policy bytes p.read q.read p.is q.is in
-      record {
-        text = drop q.read.rest bytes;
-        one = subst (λ (r : PolicyRead). P (drop r.rest bytes)) same p.holds;
-        other = q.holds;
-      }
-  both_hold (Image limit) bytes P Q p q = absurd p
-  both_hold Nothing bytes P Q p q = absurd p
-
-  text_or_line : (i : Intake) (bytes : List ℕ) (P : List ℕ → Type 0) (line : ℕ) → HoldsOfText i bytes P →
-      HasBadLineIn i bytes line → ⊥
-  text_or_line (Text limit) bytes P line p l = l
-  text_or_line (PolicyAndText limit) bytes P line p l = policy_or_bad bytes p.read l.first p.is l.bad
-  text_or_line (Image limit) bytes P line p l = p
-  text_or_line Nothing bytes P line p l = p
-
-  one_line : (i : Intake) (bytes : List ℕ) (n m : ℕ) → HasBadLineIn i bytes n → HasBadLineIn i bytes m → n ≡ m
-  one_line (Text limit) bytes n m a b = absurd a
-  one_line (PolicyAndText limit) bytes n m a b =
-      a.number ∙ (ap (λ first. min first 4294967295) (one_bad (lines_of bytes) a.first b.first a.bad b.bad) ∙
-      sym b.number)
-  one_line (Image limit) bytes n m a b = absurd a
-  one_line Nothing bytes n m a b = absurd a
-
-  fits_or_large : (text : List ℕ) (program other : ProgramTree) (fault : TooLarge) → Accepts text program →
-      Accepts text other → too_large program ≡ None → large_in other ≡ Some fault → ⊥
-  fits_or_large text program other fault is known fits found =
-      let same = one_program text program other is known in
-      let none = subst (λ p. too_large p ≡ None) same fits in
-      none-some fault (ap (option_and_then _) (sym none) ∙ found)
-
-  sound_text : (i : Intake) (c : Command) (bytes : List ℕ) → HoldsOfText i bytes (IsGoodText c) → SoundIn i c bytes
-  sound_text i c bytes good =
-      record {
-        refused = λ r f.
-            let both = both_hold i bytes (λ text. Fails text r.phase r.line) (IsGoodText c) f good in
-            accepted_or_refused both.text both.other.program r.phase r.line both.other.accepted both.one;
-        unfit = λ fault u.
-            let both = both_hold i bytes (λ text. IsUnfit c text fault) (IsGoodText c) u good in
-            fits_or_large both.text both.other.program both.one.program fault both.other.accepted both.one.accepted
-            (both.other.fits both.one.compiled) both.one.found;
-        bad = λ cause b. text_or_image i bytes (IsGoodText c) cause good b;
-        bad_line = λ line l. text_or_line i bytes (IsGoodText c) line good l;
-      }
-
-  good_is_sound : (i : Intake) (c : Command) (bytes : List ℕ) → IsGoodIn i c bytes → SoundIn i c bytes
-  good_is_sound (Text limit) c bytes good = sound_text (Text limit) c bytes good
-  good_is_sound (PolicyAndText limit) c bytes good = sound_text (PolicyAndText limit) c bytes good
-  good_is_sound (Image limit) c bytes is =
-      record {
-        refused = λ r f. f;
-        unfit = λ fault u. u;
-        bad = λ cause b. image_bad bytes cause is b;
-        bad_line = λ line l. l;
-      }
-  good_is_sound Nothing c bytes good =
-      record { refused = λ r f. f; unfit = λ fault u. u; bad = λ cause b. b; bad_line = λ line l. l }
-
+    (one_bad : (lines : List (List ℕ)) (one other : ℕ) → IsBadAt lines one → IsBadAt lines other → one ≡ other)
+    (one_list : BytesNameOneList) (one_first : OneFirstBad) where
   -- where there is an output there is no cause
-  sound_output : (c : Command) (bytes out : List ℕ) → IsOutput c bytes out → Sound c bytes
-  sound_output c bytes out o = good_is_sound (intake c) c bytes (good_output c bytes out o)
+  output_or_cause : (c : Command) (bytes out : List ℕ) (s : Status) → IsOutput c bytes out →
+      Cause (intake c) c bytes s → ⊥
+  output_or_cause c bytes out s o h =
+      good_or_cause accepted_or_refused one_phase one_program one_policy policy_or_bad one_bad one_list one_first
+      (intake c) c bytes s (good_output c bytes out o) h
 
-  one_refusal : (c : Command) (bytes : List ℕ) (r q : Refusal) → Refuses c bytes r → Refuses c bytes q →
-      SameAnswer (status.Refused r) (status.Refused q)
-  one_refusal c bytes r q f g =
-      let both =
-      both_hold (intake c) bytes (λ text. Fails text r.phase r.line) (λ text. Fails text q.phase q.line) f g in
-      one_phase both.text r.phase q.phase r.line q.line both.one both.other
-
-  -- a refused text isn't accepted
-  refused_unfit : (c : Command) (bytes : List ℕ) (r : Refusal) (fault : TooLarge) → Refuses c bytes r →
-      FindsUnfit c bytes fault → ⊥
-  refused_unfit c bytes r fault f u =
-      let both = both_hold (intake c) bytes (λ text. Fails text r.phase r.line) (λ text. IsUnfit c text fault) f u in
-      accepted_or_refused both.text both.other.program r.phase r.line both.other.accepted both.one
-
-  one_unfit : (c : Command) (bytes : List ℕ) (fault other : TooLarge) → FindsUnfit c bytes fault →
-      FindsUnfit c bytes other → fault ≡ other
-  one_unfit c bytes fault other u v =
-      let both = both_hold (intake c) bytes (λ text. IsUnfit c text fault) (λ text. IsUnfit c text other) u v in
-      let same = one_program both.text both.one.program both.other.program both.one.accepted both.other.accepted in
-      same_some _ fault other (subst (λ p. large_in p ≡ Some fault) same both.one.found) both.other.found
-
-  refused_bad : (c : Command) (bytes : List ℕ) (r : Refusal) (cause : ℕ) → Refuses c bytes r → FindsBad c bytes cause →
-      ⊥
-  refused_bad c bytes r cause f b = text_or_image (intake c) bytes (λ text. Fails text r.phase r.line) cause f b
-
-  refused_line : (c : Command) (bytes : List ℕ) (r : Refusal) (line : ℕ) → Refuses c bytes r →
-      FindsBadLine c bytes line → ⊥
-  refused_line c bytes r line f l = text_or_line (intake c) bytes (λ text. Fails text r.phase r.line) line f l
-
-  unfit_bad : (c : Command) (bytes : List ℕ) (fault : TooLarge) (cause : ℕ) → FindsUnfit c bytes fault →
-      FindsBad c bytes cause → ⊥
-  unfit_bad c bytes fault cause u b = text_or_image (intake c) bytes (λ text. IsUnfit c text fault) cause u b
-
-  unfit_line : (c : Command) (bytes : List ℕ) (fault : TooLarge) (line : ℕ) → FindsUnfit c bytes fault →
-      FindsBadLine c bytes line → ⊥
-  unfit_line c bytes fault line u l = text_or_line (intake c) bytes (λ text. IsUnfit c text fault) line u l
+  one_of_two : (c : Command) (text : List ℕ) (s t : Status) → Answered c text s → Answered c text t → SameAnswer s t
+  one_of_two c text s t (WithOutput is low out o) (WithOutput known high other p) = same_by s t _ _ is known refl
+  one_of_two c text s t (WithOutput is low out o) (WithMore limit known long) =
+      absurd (not_both (limit_of c) text limit low long)
+  one_of_two c text s t (WithOutput is low out o) (WithCause within h) = absurd (output_or_cause c text out t o h)
+  one_of_two c text s t (WithMore limit is long) (WithOutput known low out o) =
+      absurd (not_both (limit_of c) text limit low long)
+  one_of_two c text s t (WithMore limit is long) (WithMore most known longer) =
+      same_by s t _ _ is known (ap status.TooLong (same_some (limit_of c) limit most long.0 longer.0))
+  one_of_two c text s t (WithMore limit is long) (WithCause within h) =
+      absurd (not_both (limit_of c) text limit within long)
+  one_of_two c text s t (WithCause within h) (WithOutput known low out o) =
+      absurd (output_or_cause c text out s o h)
+  one_of_two c text s t (WithCause within h) (WithMore limit known long) =
+      absurd (not_both (limit_of c) text limit within long)
+  one_of_two c text s t (WithCause within h) (WithCause low k) =
+      one_cause accepted_or_refused one_phase one_program one_policy policy_or_bad one_bad one_list one_first
+      (intake c) c text s t h k
 
   -- bytes have one answer
   pub one_answer : (c : Command) (text : List ℕ) (s t : Status) → IsAnswer c text s → IsAnswer c text t → SameAnswer s t
-  one_answer c text status.Usage t a b = absurd a
-  one_answer c text status.ReadFault t a b = absurd a
-  one_answer c text status.WriteFault t a b = absurd a
-  one_answer c text status.OutOfMemory t a b = absurd a
-  one_answer c text s status.Usage a b = absurd b
-  one_answer c text s status.ReadFault a b = absurd b
-  one_answer c text s status.WriteFault a b = absurd b
-  one_answer c text s status.OutOfMemory a b = absurd b
-  one_answer c text status.Done status.Done a b = refl
-  one_answer c text status.Done (status.Refused r) a b = absurd ((sound_output c text a.1.0 a.1.1).refused r b.1)
-  one_answer c text status.Done (status.TooLarge f) a b = absurd ((sound_output c text a.1.0 a.1.1).unfit f b.1)
-  one_answer c text status.Done (status.TooLong l) a b = absurd (not_both _ text l a.0 b)
-  one_answer c text status.Done (status.BadImage n) a b = absurd ((sound_output c text a.1.0 a.1.1).bad n b.1)
-  one_answer c text status.Done (status.BadPolicy l) a b = absurd ((sound_output c text a.1.0 a.1.1).bad_line l b.1)
-  one_answer c text (status.Refused r) status.Done a b = absurd ((sound_output c text b.1.0 b.1.1).refused r a.1)
-  one_answer c text (status.Refused r) (status.Refused q) a b = one_refusal c text r q a.1 b.1
-  one_answer c text (status.Refused r) (status.TooLarge f) a b = absurd (refused_unfit c text r f a.1 b.1)
-  one_answer c text (status.Refused r) (status.TooLong l) a b = absurd (not_both _ text l a.0 b)
-  one_answer c text (status.Refused r) (status.BadImage n) a b = absurd (refused_bad c text r n a.1 b.1)
-  one_answer c text (status.Refused r) (status.BadPolicy l) a b = absurd (refused_line c text r l a.1 b.1)
-  one_answer c text (status.TooLarge f) status.Done a b = absurd ((sound_output c text b.1.0 b.1.1).unfit f a.1)
-  one_answer c text (status.TooLarge f) (status.Refused r) a b = absurd (refused_unfit c text r f b.1 a.1)
-  one_answer c text (status.TooLarge f) (status.TooLarge g) a b = ap status.TooLarge (one_unfit c text f g a.1 b.1)
-  one_answer c text (status.TooLarge f) (status.TooLong l) a b = absurd (not_both _ text l a.0 b)
-  one_answer c text (status.TooLarge f) (status.BadImage n) a b = absurd (unfit_bad c text f n a.1 b.1)
-  one_answer c text (status.TooLarge f) (status.BadPolicy l) a b = absurd (unfit_line c text f l a.1 b.1)
-  one_answer c text (status.TooLong l) status.Done a b = absurd (not_both _ text l b.0 a)
-  one_answer c text (status.TooLong l) (status.Refused r) a b = absurd (not_both _ text l b.0 a)
-  one_answer c text (status.TooLong l) (status.TooLarge f) a b = absurd (not_both _ text l b.0 a)
-  one_answer c text (status.TooLong l) (status.TooLong m) a b = ap status.TooLong (same_some _ l m a.0 b.0)
-  one_answer c text (status.TooLong l) (status.BadImage n) a b = absurd (not_both _ text l b.0 a)
-  one_answer c text (status.TooLong l) (status.BadPolicy m) a b = absurd (not_both _ text l b.0 a)
-  one_answer c text (status.BadImage n) status.Done a b = absurd ((sound_output c text b.1.0 b.1.1).bad n a.1)
-  one_answer c text (status.BadImage n) (status.Refused r) a b = absurd (refused_bad c text r n b.1 a.1)
-  one_answer c text (status.BadImage n) (status.TooLarge f) a b = absurd (unfit_bad c text f n b.1 a.1)
-  one_answer c text (status.BadImage n) (status.TooLong l) a b = absurd (not_both _ text l a.0 b)
-  one_answer c text (status.BadImage n) (status.BadImage m) a b =
-      ap status.BadImage (one_cause (intake c) text n m a.1 b.1)
-  one_answer c text (status.BadImage n) (status.BadPolicy l) a b = absurd (policy_or_image (intake c) text n l a.1 b.1)
-  one_answer c text (status.BadPolicy l) status.Done a b = absurd ((sound_output c text b.1.0 b.1.1).bad_line l a.1)
-  one_answer c text (status.BadPolicy l) (status.Refused r) a b = absurd (refused_line c text r l b.1 a.1)
-  one_answer c text (status.BadPolicy l) (status.TooLarge f) a b = absurd (unfit_line c text f l b.1 a.1)
-  one_answer c text (status.BadPolicy l) (status.TooLong m) a b = absurd (not_both _ text m a.0 b)
-  one_answer c text (status.BadPolicy l) (status.BadImage n) a b = absurd (policy_or_image (intake c) text n l b.1 a.1)
-  one_answer c text (status.BadPolicy l) (status.BadPolicy m) a b =
-      ap status.BadPolicy (one_line (intake c) text l m a.1 b.1)
+  one_answer c text s t a b = one_of_two c text s t (answer_is c text s a) (answer_is c text t b)
 
   -- good input has no answer but `Done`
-  only_done : (c : Command) (text : List ℕ) (s : Status) → Sound c text → IsWithin c text → IsAnswer c text s →
+  only_done : (c : Command) (text : List ℕ) (s : Status) → IsWithin c text → IsGood c text → Answered c text s →
       s ≡ status.Done
-  only_done c text status.Done sound within a = refl
-  only_done c text (status.Refused r) sound within a = absurd (sound.refused r a.1)
-  only_done c text (status.TooLarge f) sound within a = absurd (sound.unfit f a.1)
-  only_done c text (status.TooLong l) sound within a = absurd (not_both _ text l within a)
-  only_done c text (status.BadImage n) sound within a = absurd (sound.bad n a.1)
-  only_done c text (status.BadPolicy l) sound within a = absurd (sound.bad_line l a.1)
-  only_done c text status.Usage sound within a = absurd a
-  only_done c text status.ReadFault sound within a = absurd a
-  only_done c text status.WriteFault sound within a = absurd a
-  only_done c text status.OutOfMemory sound within a = absurd a
+  only_done c text s within good (WithOutput is low out o) = is
+  only_done c text s within good (WithMore limit is long) = absurd (not_both (limit_of c) text limit within long)
+  only_done c text s within good (WithCause low h) =
+      absurd (good_or_cause accepted_or_refused one_phase one_program one_policy policy_or_bad one_bad one_list
+      one_first (intake c) c text s good h)
 
   pub completed : (c : Command) (t : Traffic) (text : List ℕ) (s : Status) → Says c t s → t.left ≡ Some text →
       IsUndisturbed t → IsWithin c text → IsGood c text → (s ≡ status.Done) ⊎ (s ≡ status.OutOfMemory)
   completed c t text s says is calm within good =
-      ⊎_elim (λ answer. inl (only_done c text s (good_is_sound (intake c) c text good) within answer)) inr
+      ⊎_elim (λ answer. inl (only_done c text s within good (answer_is c text s answer))) inr
       (answered c t text s says is calm)
 
   -- all that an answer says

@@ -1,12 +1,13 @@
 -- What is asked of `explain`, `judge` and `make` is bounded.
 use Rattle.sc_top.proofs.Common.{Bool, Check, Command, Compile, Exec, Explain, IsBounded, IsInput, IsWithinLimit, Judge}
-use Rattle.sc_top.proofs.Common.{List}
+use Rattle.sc_top.proofs.Common.{List, Object}
 use Rattle.sc_top.proofs.Common.{Make, MakeOptions, Meaning, None, Option, Run, RunOptions, Some, arith, codes, false}
 use Rattle.sc_top.proofs.Common.{if◌then◌else◌, leb-true, nat_le, none-some, option_and_then, option_map, refl, subst}
 use Rattle.sc_top.proofs.Common.{true, ℕ, ℤ, ◌&&◌, ◌≡◌, ◌≤◌}
 use Rattle.sc_top_words.specs.Prelude.{given_value, has_option, number_within, number, when_within}
 use Rattle.std.specs.Str.{bytes_eq}
 use Rattle.sc_top_words.specs.Words as words
+use Rattle.sc_top_words.specs.declared.command.Command.TheVariants as commands
 unfoldable use Rattle.sc_top_words.specs.Words.{command}
 
 same_value : {A : Type 0} (x y : A) → ◌≡◌ {A = Option A} (Some x) (Some y) → x ≡ y
@@ -84,13 +85,15 @@ with_values name value summary c =
     either (bytes_eq name _) _ _ c (λ is. subst IsBounded (same_value Check c is) tt)
     (either (bytes_eq name _) _ _ c (mapped Meaning _ _ c)
     (either (bytes_eq name _) _ _ c (λ is. subst IsBounded (same_value Compile c is) tt)
+    (either (bytes_eq name _) _ _ c (mapped Object _ _ c)
+    (either (bytes_eq name _) _ _ c (λ is. subst IsBounded (same_value commands.Link c is) tt)
     (either (bytes_eq name _) _ _ c (mapped Run _ _ c) (either (bytes_eq name _) _ _ c (mapped Exec _ _ c)
     (either (bytes_eq name _) _ _ c (of_explain _ _ c (λ options. of_run (words.limit (value _))
     (words.events (value _)) (words.inputs (value _)) options (of_events (value _))))
     (either (bytes_eq name _) _ _ c (mapped Judge _ (λ options. of_run (words.limit (value _))
     (words.events (value _)) (words.inputs (value _)) options (of_events (value _))) c)
     (either (bytes_eq name _) _ _ c (mapped Make _ (λ options. of_make _ _ summary options
-    (of_value 1 1000 (value _)) (of_value 0 4294967295 (value _))) c) (λ is. absurd (none-some c is)))))))))
+    (of_value 1 1000 (value _)) (of_value 0 4294967295 (value _))) c) (λ is. absurd (none-some c is)))))))))))
 
 of_parsed : (read : Option (List ℕ × List (List ℕ × List ℕ))) (c : Command) →
     option_and_then (λ read. words.command_with read.0 (λ name. given_value name read.1)

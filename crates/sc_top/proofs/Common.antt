@@ -45,7 +45,10 @@ pub use Rattle.sc_report.specs.Report.{meaning_text, run_text}
 pub use Rattle.sc_report.specs.Summary.{summary_text}
 pub use Rattle.sc_top.specs.Common.{Adds, CompileFault, Interfaces, IsAtEnd, Link, ProgramTree, Refusal, Rose, Takes}
 pub use Rattle.sc_top.specs.Prelude.{Answers, ArePerforming, Check, Command, Compile, Exec, Explain, Fetches}
-pub use Rattle.sc_top.specs.Prelude.{FindsBad, FindsBadLine, FindsUnfit, HasExplanation, HasImage, HoldsAfterPolicy}
+pub use Rattle.sc_top.specs.Prelude.{CanBeLinked, FindsBad, FindsBadLine, FindsUnfit, HasBadJoin, HasBadObject}
+pub use Rattle.sc_top.specs.Prelude.{HasExplanation, HasImage, HasSection, HoldsAfterPolicy, IsJoining, IsLinked}
+pub use Rattle.sc_top.specs.Prelude.{IsObjectOutput, LacksSection, Object, bad_join_in, comp_named, join_by_name}
+pub use Rattle.sc_top.specs.Prelude.{of_join_fault, section_of}
 pub use Rattle.sc_top.specs.Prelude.{HoldsOfText, IsAccounted, IsAnswer, IsBounded, IsCommitted, IsCompiling}
 pub use Rattle.sc_top.specs.Prelude.{IsExecuted, IsGood, IsGoodText, IsInput, IsJudged, IsMadeBy, IsMadeText, IsNamed}
 pub use Rattle.sc_top.specs.Prelude.{IsOutput, IsOutputCause, IsSummary, IsTextOutput, IsUndisturbed, IsUnfit}

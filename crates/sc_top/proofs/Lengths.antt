@@ -7,7 +7,7 @@ use Rattle.sc_image.specs.Prelude.{bytes_in_version, code_bytes}
 use Rattle.byteorder.specs.Endian.{little_bytes}
 use Rattle.sc_image.specs.declared.parts.CompPart.{CompPart}
 use Rattle.sc_image.specs.declared.parts.ExportPart.{ExportPart}
-use Rattle.sc_image.specs.declared.parts.ImportPart.{ImportPart}
+use Rattle.sc_image.specs.Prelude.{ImportPart}
 use Rattle.sc_base.proofs.Filled.{name_is_short}
 
 -- pieces of at most `most` bytes

@@ -1,6 +1,7 @@
 pub mod Common
 pub mod Answers
 pub mod Asked
+pub mod Causes
 pub mod Chains
 pub mod Committed
 pub mod Executed
@@ -8,5 +9,6 @@ pub mod Known
 pub mod Large
 pub mod Lengths
 pub mod Made
+pub mod Objects
 pub mod Outputs
 pub mod Streams

@@ -58,11 +58,13 @@ small_fits program small =
 made_output : (options : MakeOptions) (text : List ℕ) → IsAccepted (made_text options.size options.seed) →
     text ≡ made_text options.size options.seed → IsMadeText options text
 made_output options text accepted written =
+    let is = subst (λ bytes. Accepts bytes accepted.program) (sym written) accepted.accepted in
     record {
       written = written;
-      good = λ command. record {
+      good = λ command has. record {
         program = accepted.program;
-        accepted = subst (λ bytes. Accepts bytes accepted.program) (sym written) accepted.accepted;
+        accepted = is;
+        there = has accepted.program is;
         fits = λ _. small_fits accepted.program accepted.small;
       };
       short = subst (λ bytes. length bytes ≤ 1048576) (sym written) accepted.short;

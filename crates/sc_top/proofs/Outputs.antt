@@ -3,10 +3,18 @@ use Rattle.sc_top.proofs.Common.{Accepts, Bool, BytesNameOneImage, Command, Fail
 use Rattle.sc_top.proofs.Common.{IsExecuted, IsMadeBy, IsOutput, IsOutputCause, IsTextOutput, IsTrue, List, MakeOptions}
 use Rattle.sc_top.proofs.Common.{ProgramTree, RunOptions, [], ap, compiles, false, image_interfaces, machine_text}
 use Rattle.sc_top.proofs.Common.{HoldsOfText, IsPolicyRead, IsUnfit, PolicyRead, intake, output}
-use Rattle.sc_top.proofs.Common.{refl, subst, sym, true, ℕ, ◌∙◌, ◌≡◌}
+use Rattle.sc_top.proofs.Common.{refl, subst, sym, true, ℕ, ◌∙◌, ◌≡◌, HasSection, IsLinked, IsObjectOutput, None}
+use Rattle.sc_top.proofs.Common.{Some, ap₂, comp_named, none-some, section_of}
+use Rattle.sc_object.specs.Prelude.{BytesNameOneList, IsJoined, join_as, object_bytes, object_of}
+use Rattle.sc_image.specs.Prelude.{image_bytes}
 use Rattle.sc_top_words.specs.declared.command.Command.TheVariants as commands
 use Rattle.sc_top.specs.declared.failure.Failure.TheVariants as failure
+use Rattle.sc_top.proofs.Causes.{same_some}
 use Rattle.sc_top.proofs.Chains.{one_account, one_summary, one_verdict}
+
+-- a command that asks for no section has what it asks for
+pub asks_none : (command : Command) → section_of command ≡ None → (program : ProgramTree) → HasSection command program
+asks_none command none program name is = absurd (none-some name (sym none ∙ is))
 
 -- the image that stands where a command compiles none
 pub no_image : ImageParts
@@ -41,25 +49,37 @@ compiled_output command bytes text program image accepted compiled written =
 -- why a program isn't compiled is why a command that compiles has no output for its text
 unfit_cause : (command : Command) (bytes text : List ℕ) (program : ProgramTree) (f : Failure) →
     ((Q : List ℕ → Type 0) → Q text → HoldsOfText (intake command) bytes Q) → Accepts text program →
-    IsTrue (compiles command) → IsCompiling program f → IsOutputCause command bytes f
-unfit_cause command bytes text program failure.Usage takes accepted compiled why = why
-unfit_cause command bytes text program (failure.Refused refusal) takes accepted compiled why = absurd why
-unfit_cause command bytes text program (failure.TooLarge fault) takes accepted compiled why =
+    HasSection command program → IsTrue (compiles command) → IsCompiling program f → IsOutputCause command bytes f
+unfit_cause command bytes text program failure.Usage takes accepted there compiled why = why
+unfit_cause command bytes text program (failure.Refused refusal) takes accepted there compiled why = absurd why
+unfit_cause command bytes text program (failure.TooLarge fault) takes accepted there compiled why =
     takes (λ text. IsUnfit command text fault)
-    (record { program = program; accepted = accepted; compiled = compiled; found = why })
-unfit_cause command bytes text program (failure.TooLong limit) takes accepted compiled why = why
-unfit_cause command bytes text program (failure.BadImage cause) takes accepted compiled why = absurd why
-unfit_cause command bytes text program failure.ReadFault takes accepted compiled why = why
-unfit_cause command bytes text program failure.WriteFault takes accepted compiled why = why
-unfit_cause command bytes text program failure.OutOfMemory takes accepted compiled why = tt
-unfit_cause command bytes text program (failure.BadPolicy line) takes accepted compiled why = absurd why
+    (record { program = program; accepted = accepted; there = there; compiled = compiled; found = why })
+unfit_cause command bytes text program (failure.TooLong limit) takes accepted there compiled why = why
+unfit_cause command bytes text program (failure.BadImage cause) takes accepted there compiled why = absurd why
+unfit_cause command bytes text program failure.ReadFault takes accepted there compiled why = why
+unfit_cause command bytes text program failure.WriteFault takes accepted there compiled why = why
+unfit_cause command bytes text program failure.OutOfMemory takes accepted there compiled why = tt
+unfit_cause command bytes text program (failure.BadObject index cause) takes accepted there compiled why = absurd why
+unfit_cause command bytes text program (failure.BadJoin fault) takes accepted there compiled why = absurd why
+unfit_cause command bytes text program (failure.NoSection name) takes accepted there compiled why = absurd why
+unfit_cause command bytes text program (failure.BadPolicy line) takes accepted there compiled why = absurd why
 
+-- the same of a program that is this one, which has the section that is asked for
+pub asked_cause : (command : Command) (bytes text : List ℕ) (program other : ProgramTree) (f : Failure) →
+    ((Q : List ℕ → Type 0) → Q text → HoldsOfText (intake command) bytes Q) →
+    other ≡ program → Accepts text program → HasSection command program → IsTrue (compiles command) →
+    IsCompiling other f → IsOutputCause command bytes f
+asked_cause command bytes text program other f takes same accepted there compiled why =
+    unfit_cause command bytes text program f takes accepted there compiled (subst (λ p. IsCompiling p f) same why)
+
+-- and for a command that asks for none
 pub compiled_cause : (command : Command) (bytes text : List ℕ) (program other : ProgramTree) (f : Failure) →
     ((Q : List ℕ → Type 0) → Q text → HoldsOfText (intake command) bytes Q) →
-    other ≡ program → Accepts text program → IsTrue (compiles command) → IsCompiling other f →
-    IsOutputCause command bytes f
-compiled_cause command bytes text program other f takes same accepted compiled why =
-    unfit_cause command bytes text program f takes accepted compiled (subst (λ p. IsCompiling p f) same why)
+    other ≡ program → Accepts text program → section_of command ≡ None → IsTrue (compiles command) →
+    IsCompiling other f → IsOutputCause command bytes f
+compiled_cause command bytes text program other f takes same accepted plain compiled why =
+    asked_cause command bytes text program other f takes same accepted (asks_none command plain program) compiled why
 
 -- ONE OUTPUT
 
@@ -69,6 +89,8 @@ same_output : (command : Command) (program : ProgramTree) (one other : ImagePart
 same_output commands.Check program one other same = refl
 same_output (commands.Meaning options) program one other same = refl
 same_output commands.Compile program one other same = ap (output commands.Compile program) (same refl)
+same_output (commands.Object options) program one other same = refl
+same_output commands.Link program one other same = refl
 same_output (commands.Run options) program one other same = ap (output (commands.Run options) program) (same refl)
 same_output (commands.Explain options show) program one other same = refl
 same_output (commands.Judge options) program one other same = refl
@@ -106,19 +128,42 @@ module _
   one_made true options text other is known = one_summary one_program options text other is known
   one_made false options text other is known = is.written ∙ sym known.written
 
-  -- a command has one output
-  pub one_output : BytesNameOneImage → ((bytes : List ℕ) (one other : PolicyRead) → IsPolicyRead bytes one →
-      IsPolicyRead bytes other → one ≡ other) → (command : Command) (bytes text other : List ℕ) →
-      IsOutput command bytes text →
-      IsOutput command bytes other → text ≡ other
-  one_output one one_policy commands.Check bytes text other is known = one_text _ bytes text other is known
-  one_output one one_policy (commands.Meaning options) bytes text other is known = one_text _ bytes text other is known
-  one_output one one_policy commands.Compile bytes text other is known = one_text _ bytes text other is known
-  one_output one one_policy (commands.Run options) bytes text other is known = one_text _ bytes text other is known
-  one_output one one_policy (commands.Explain options show) bytes text other is known =
-      one_account one_program options show bytes text other is known
-  one_output one one_policy (commands.Judge options) bytes text other is known =
-      one_verdict one_program one_policy options bytes text other is known
-  one_output one one_policy (commands.Exec options) bytes text other is known =
-      one_run one options bytes text other is known
-  one_output one one_policy (commands.Make options) bytes text other is known = one_made _ options text other is known
+  one_object : (section bytes text other : List ℕ) → IsObjectOutput section bytes text →
+      IsObjectOutput section bytes other → text ≡ other
+  one_object section bytes text other is known =
+      let program = one_program bytes is.program known.program is.accepted known.accepted in
+      let has : HasImage is.program is.is.image = record { compiled = is.is.compiled; right = is.is.right } in
+      let image = one_image known.program is.is.image known.is.image
+      (subst (λ p. HasImage p is.is.image) program has)
+      (record { compiled = known.is.compiled; right = known.is.right }) in
+      let named = subst (λ (p : ProgramTree). comp_named p.interfaces section ≡ Some is.comp) program is.named in
+      let comp = same_some _ is.comp known.comp named known.named in
+      is.written ∙ (ap object_bytes (is.is.is ∙ (ap₂ object_of image comp ∙ sym known.is.is)) ∙ sym known.written)
+
+  one_linked : BytesNameOneList → (bytes text other : List ℕ) → IsLinked bytes text → IsLinked bytes other →
+      text ≡ other
+  one_linked one bytes text other is known =
+      let same = one bytes is.can.objects known.can.objects is.can.read known.can.read in
+      let joined = subst (λ objects. IsJoined objects is.image) same is.joined in
+      let head = same_some _ joined.head known.joined.head joined.first known.joined.first in
+      is.written ∙ (ap image_bytes (joined.joined ∙ (ap (λ h. join_as h known.can.objects) head ∙
+      sym known.joined.joined)) ∙ sym known.written)
+
+  module _ (one : BytesNameOneImage) (one_list : BytesNameOneList) (one_policy : (bytes : List ℕ)
+      (one other : PolicyRead) → IsPolicyRead bytes one → IsPolicyRead bytes other → one ≡ other) where
+    -- a command has one output
+    pub one_output : (command : Command) (bytes text other : List ℕ) → IsOutput command bytes text →
+        IsOutput command bytes other → text ≡ other
+    one_output commands.Check bytes text other is known = one_text _ bytes text other is known
+    one_output (commands.Meaning options) bytes text other is known = one_text _ bytes text other is known
+    one_output commands.Compile bytes text other is known = one_text _ bytes text other is known
+    one_output (commands.Object options) bytes text other is known =
+        one_object options.section bytes text other is known
+    one_output commands.Link bytes text other is known = one_linked one_list bytes text other is known
+    one_output (commands.Run options) bytes text other is known = one_text _ bytes text other is known
+    one_output (commands.Explain options show) bytes text other is known =
+        one_account one_program options show bytes text other is known
+    one_output (commands.Judge options) bytes text other is known =
+        one_verdict one_program one_policy options bytes text other is known
+    one_output (commands.Exec options) bytes text other is known = one_run one options bytes text other is known
+    one_output (commands.Make options) bytes text other is known = one_made _ options text other is known

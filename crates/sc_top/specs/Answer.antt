@@ -7,13 +7,16 @@ use Rattle.std.specs.Prelude.{option_and_then}
 use Rattle.std.specs.Option.{option_map}
 use Rattle.sc_lex.specs.declared.refusal.Phase.TheVariants.{Syntax}
 use Rattle.sc_policy.specs.Prelude.{HasBadLine}
+use Rattle.sc_top.specs.declared.status.BadJoin as join
 use Rattle.sc_top.specs.declared.status.Status.{Status}
 use Rattle.sc_top.specs.declared.status.Status.TheVariants.{Done, Usage, Refused, TooLarge, TooLong, BadImage}
-use Rattle.sc_top.specs.declared.status.Status.TheVariants.{ReadFault, WriteFault, OutOfMemory, BadPolicy}
+use Rattle.sc_top.specs.declared.status.Status.TheVariants.{ReadFault, WriteFault, OutOfMemory, BadObject}
+use Rattle.sc_top.specs.declared.status.Status.TheVariants.{BadJoin, NoSection, BadPolicy}
 use Rattle.sc_top.specs.declared.status.TooLarge as large
-use Rattle.sc_top.specs.Command.{HoldsAfterPolicy, HoldsOfText, Intake, Text, PolicyAndText, Image, Nothing, intake}
-use Rattle.sc_top.specs.Command.{limit_of}
+use Rattle.sc_top.specs.Command.{HoldsAfterPolicy, HoldsOfText, Image, Intake, Nothing, Objects, PolicyAndText, Text}
+use Rattle.sc_top.specs.Command.{intake, limit_of}
 use Rattle.sc_top.specs.Large.{large_in}
+use Rattle.sc_top.specs.Objects.{CanBeLinked, HasBadJoin, HasBadObject, HasSection, comp_named, section_of}
 use Rattle.sc_top.specs.Output.{compiles, IsGoodText, IsOutput}
 
 -- what a call saw of the outside: the bytes that were left to read and those that were written, where these are known,
@@ -79,6 +82,7 @@ abbrev pub IsBadIn : Intake → List ℕ → (cause : ℕ) → Type 0
 IsBadIn (Image limit) bytes cause = cause_in bytes ≡ Some cause
 IsBadIn (Text limit) bytes cause = ⊥
 IsBadIn (PolicyAndText limit) bytes cause = ⊥
+IsBadIn (Objects limit) bytes cause = ⊥
 IsBadIn Nothing bytes cause = ⊥
 
 abbrev pub FindsBad : Command → List ℕ → (cause : ℕ) → Type 0
@@ -88,15 +92,48 @@ abbrev pub HasBadLineIn : Intake → List ℕ → (line : ℕ) → Type 0
 HasBadLineIn (PolicyAndText limit) bytes line = HasBadLine bytes line
 HasBadLineIn (Text limit) bytes line = ⊥
 HasBadLineIn (Image limit) bytes line = ⊥
+HasBadLineIn (Objects limit) bytes line = ⊥
 HasBadLineIn Nothing bytes line = ⊥
 
 abbrev pub FindsBadLine : Command → List ℕ → (line : ℕ) → Type 0
 FindsBadLine command bytes line = HasBadLineIn (intake command) bytes line
 
--- the text is accepted, and the command compiles its program, which is too large
+abbrev pub HasBadObjectIn : Intake → List ℕ → (index cause : ℕ) → Type 0
+HasBadObjectIn (Objects limit) bytes index cause = HasBadObject bytes index cause
+HasBadObjectIn (Text limit) bytes index cause = ⊥
+HasBadObjectIn (PolicyAndText limit) bytes index cause = ⊥
+HasBadObjectIn (Image limit) bytes index cause = ⊥
+HasBadObjectIn Nothing bytes index cause = ⊥
+
+abbrev pub FindsBadObject : Command → List ℕ → (index cause : ℕ) → Type 0
+FindsBadObject command bytes index cause = HasBadObjectIn (intake command) bytes index cause
+
+abbrev pub HasBadJoinIn : Intake → List ℕ → join.BadJoin → Type 0
+HasBadJoinIn (Objects limit) bytes fault = HasBadJoin bytes fault
+HasBadJoinIn (Text limit) bytes fault = ⊥
+HasBadJoinIn (PolicyAndText limit) bytes fault = ⊥
+HasBadJoinIn (Image limit) bytes fault = ⊥
+HasBadJoinIn Nothing bytes fault = ⊥
+
+abbrev pub FindsBadJoin : Command → List ℕ → join.BadJoin → Type 0
+FindsBadJoin command bytes fault = HasBadJoinIn (intake command) bytes fault
+
+-- the text is accepted, and its program lacks the section of this name, which the command asks for
+pub record LacksSection (command : Command) (text name : List ℕ) : Type 0 where
+  pub program : ProgramTree
+  pub accepted : Accepts text program
+  pub asked : section_of command ≡ Some name
+  pub lacks : comp_named program.interfaces name ≡ None
+
+abbrev pub FindsNoSection : Command → List ℕ → (name : List ℕ) → Type 0
+FindsNoSection command bytes name = HoldsOfText (intake command) bytes (λ text. LacksSection command text name)
+
+-- the text is accepted, with the section that the command asks for, and the command compiles its program, which is too
+-- large
 pub record IsUnfit (command : Command) (text : List ℕ) (fault : large.TooLarge) : Type 0 where
   pub program : ProgramTree
   pub accepted : Accepts text program
+  pub there : HasSection command program
   pub compiled : IsTrue (compiles command)
   pub found : large_in program ≡ Some fault
 
@@ -113,6 +150,10 @@ Says command traffic (Refused refusal) = HasRead command traffic (λ bytes. Refu
 Says command traffic (TooLarge fault) = HasRead command traffic (λ bytes. FindsUnfit command bytes fault)
 Says command traffic (TooLong limit) = (limit_of command ≡ Some limit) × IsLonger limit traffic.left traffic.left_after
 Says command traffic (BadImage cause) = HasRead command traffic (λ bytes. FindsBad command bytes cause)
+Says command traffic (BadObject index cause) =
+    HasRead command traffic (λ bytes. FindsBadObject command bytes index cause)
+Says command traffic (BadJoin fault) = HasRead command traffic (λ bytes. FindsBadJoin command bytes fault)
+Says command traffic (NoSection name) = HasRead command traffic (λ bytes. FindsNoSection command bytes name)
 Says command traffic (BadPolicy line) = HasRead command traffic (λ bytes. FindsBadLine command bytes line)
 Says command traffic ReadFault = Rose traffic.read_faults traffic.read_faults_after
 Says command traffic WriteFault =
@@ -139,17 +180,22 @@ IsAnswer command bytes (Refused refusal) = IsWithin command bytes × Refuses com
 IsAnswer command bytes (TooLarge fault) = IsWithin command bytes × FindsUnfit command bytes fault
 IsAnswer command bytes (TooLong limit) = (limit_of command ≡ Some limit) × (limit + 1 ≤ length bytes)
 IsAnswer command bytes (BadImage cause) = IsWithin command bytes × FindsBad command bytes cause
+IsAnswer command bytes (BadObject index cause) = IsWithin command bytes × FindsBadObject command bytes index cause
+IsAnswer command bytes (BadJoin fault) = IsWithin command bytes × FindsBadJoin command bytes fault
+IsAnswer command bytes (NoSection name) = IsWithin command bytes × FindsNoSection command bytes name
 IsAnswer command bytes (BadPolicy line) = IsWithin command bytes × FindsBadLine command bytes line
 IsAnswer command bytes Usage = ⊥
 IsAnswer command bytes ReadFault = ⊥
 IsAnswer command bytes WriteFault = ⊥
 IsAnswer command bytes OutOfMemory = ⊥
 
--- good input: a good text, a policy and a good text, the bytes of an image, or anything where a command reads nothing
+-- good input: a good text, a policy and a good text, the bytes of an image, those of objects that are linked, or
+-- anything where a command reads nothing
 abbrev pub IsGoodIn : Intake → Command → List ℕ → Type 0
 IsGoodIn (Text limit) command bytes = IsGoodText command bytes
 IsGoodIn (PolicyAndText limit) command bytes = HoldsAfterPolicy bytes (IsGoodText command)
 IsGoodIn (Image limit) command bytes = IsImage bytes
+IsGoodIn (Objects limit) command bytes = CanBeLinked bytes
 IsGoodIn Nothing command bytes = Unit {0}
 
 abbrev pub IsGood : Command → List ℕ → Type 0

@@ -1,10 +1,15 @@
 -- Helping: how the faults of the parts are passed on, and which status tells a failure.
 use Rattle.sc_top.specs.Common.{Command, Rose, cause_number}
-use Rattle.std.specs.Prelude.{◌≡◌, ℕ, List, Result, Ok, Err, Option, Some}
+use Rattle.std.specs.Prelude.{◌≡◌, ℕ, List, Result, Ok, Err, Option, None, Some}
 use Rattle.sc_image.specs.declared.fault.ImageFault.{ImageFault}
 use Rattle.sc_image.specs.declared.fault.ImageFault.TheVariants as image
 use Rattle.sc_lex.specs.declared.fault.TextFault.{TextFault}
 use Rattle.sc_lex.specs.declared.fault.TextFault.TheVariants as text
+use Rattle.sc_object.specs.Prelude.{cause_number as object_cause}
+use Rattle.sc_object.specs.declared.fault.ObjectsFault.{ObjectsFault}
+use Rattle.sc_object.specs.declared.fault.ObjectsFault.TheVariants as objects_fault
+use Rattle.sc_object.specs.declared.linking.JoinFault.{JoinFault}
+use Rattle.sc_object.specs.declared.parts.ObjectParts.{ObjectParts}
 use Rattle.sc_policy.specs.declared.fault.PolicyFault.{PolicyFault}
 use Rattle.sc_policy.specs.declared.fault.PolicyFault.TheVariants as policy
 use Rattle.sc_top_words.specs.declared.fault.WordsFault.{WordsFault}
@@ -13,10 +18,14 @@ use Rattle.sc_top.specs.declared.input.ReadFault as read
 use Rattle.sc_top.specs.declared.input.ReadFault.TheVariants as faults
 use Rattle.sc_top.specs.declared.failure.Failure.{Failure}
 use Rattle.sc_top.specs.declared.failure.Failure.TheVariants.{Usage, Refused, TooLarge, TooLong, BadImage, ReadFault}
-use Rattle.sc_top.specs.declared.failure.Failure.TheVariants.{WriteFault, OutOfMemory, BadPolicy}
+use Rattle.sc_top.specs.declared.failure.Failure.TheVariants.{WriteFault, OutOfMemory, BadObject}
+use Rattle.sc_top.specs.declared.failure.Failure.TheVariants.{BadJoin, NoSection, BadPolicy}
+use Rattle.sc_top.specs.declared.status.BadJoin as join
 use Rattle.sc_top.specs.declared.status.Status.{Status}
 use Rattle.sc_top.specs.declared.status.Status.TheVariants as status
-use Rattle.sc_top.specs.Answer.{IsLonger, Refuses, FindsUnfit, FindsBad, FindsBadLine}
+use Rattle.sc_top.specs.Answer.{FindsBad, FindsBadJoin, FindsBadLine, FindsBadObject, FindsNoSection, FindsUnfit}
+use Rattle.sc_top.specs.Answer.{IsLonger, Refuses}
+use Rattle.sc_top.specs.Objects.{bad_join_in, join_by_name}
 
 abbrev pub of_words_fault : WordsFault → Failure
 of_words_fault words.Usage = Usage
@@ -34,6 +43,24 @@ abbrev pub of_image_fault : ImageFault → Failure
 of_image_fault (image.Bad cause) = BadImage (cause_number cause)
 of_image_fault image.OutOfMemory = OutOfMemory
 
+abbrev pub of_objects_fault : ObjectsFault → Failure
+of_objects_fault (objects_fault.Bad index cause) = BadObject index (object_cause cause)
+of_objects_fault objects_fault.OutOfMemory = OutOfMemory
+
+abbrev pub of_join : Option join.BadJoin → Failure
+of_join None = OutOfMemory
+of_join (Some fault) = BadJoin fault
+
+-- a fault of linking, by the names of compartments
+abbrev pub of_join_fault : List ObjectParts → JoinFault → Failure
+of_join_fault objects fault = of_join (join_by_name objects fault)
+
+-- why objects aren't linked
+abbrev pub IsJoining : List ObjectParts → Failure → Type 0
+IsJoining objects (BadJoin fault) = bad_join_in objects ≡ Some fault
+IsJoining objects OutOfMemory = Unit {0}
+IsJoining objects _ = ⊥
+
 abbrev pub of_policy_fault : PolicyFault → Failure
 of_policy_fault (policy.Bad line) = BadPolicy line
 of_policy_fault policy.OutOfMemory = OutOfMemory
@@ -47,6 +74,9 @@ status_of (BadImage cause) = status.BadImage cause
 status_of ReadFault = status.ReadFault
 status_of WriteFault = status.WriteFault
 status_of OutOfMemory = status.OutOfMemory
+status_of (BadObject index cause) = status.BadObject index cause
+status_of (BadJoin fault) = status.BadJoin fault
+status_of (NoSection name) = status.NoSection name
 status_of (BadPolicy line) = status.BadPolicy line
 
 -- the status of a call that went well or failed
@@ -67,6 +97,9 @@ abbrev pub IsOutputCause : Command → List ℕ → Failure → Type 0
 IsOutputCause command bytes (Refused refusal) = Refuses command bytes refusal
 IsOutputCause command bytes (TooLarge fault) = FindsUnfit command bytes fault
 IsOutputCause command bytes (BadImage cause) = FindsBad command bytes cause
+IsOutputCause command bytes (BadObject index cause) = FindsBadObject command bytes index cause
+IsOutputCause command bytes (BadJoin fault) = FindsBadJoin command bytes fault
+IsOutputCause command bytes (NoSection name) = FindsNoSection command bytes name
 IsOutputCause command bytes (BadPolicy line) = FindsBadLine command bytes line
 IsOutputCause command bytes OutOfMemory = Unit {0}
 IsOutputCause command bytes _ = ⊥

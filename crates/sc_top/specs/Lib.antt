@@ -7,6 +7,7 @@ pub mod Failure
 pub mod Fetching
 pub mod Large
 pub mod Laws
+pub mod Objects
 pub mod Output
 pub mod Status
 pub mod Texts

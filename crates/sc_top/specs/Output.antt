@@ -24,7 +24,10 @@ use Rattle.sc_policy.specs.declared.policy.Policy.{Policy}
 use Rattle.sc_policy.specs.declared.read.PolicyRead.{PolicyRead}
 use Rattle.sc_monitor.specs.Prelude.{verdict}
 use Rattle.sc_monitor.specs.declared.verdict.Verdict.TheVariants.{Violated}
+use Rattle.sc_object.specs.Prelude.{IsObjectOf, object_bytes}
+use Rattle.sc_object.specs.declared.parts.ObjectParts.{ObjectParts}
 use Rattle.sc_top.specs.Committed.{IsCommitted, text_after}
+use Rattle.sc_top.specs.Objects.{HasSection, IsLinked, comp_named}
 use Rattle.sc_top_words.specs.declared.command.Command.TheVariants as commands
 use Rattle.sc_top_words.specs.declared.command.MakeOptions.{MakeOptions}
 use Rattle.sc_top_words.specs.declared.command.MeaningOptions.{MeaningOptions}
@@ -52,16 +55,19 @@ abbrev pub compiles : Command → Bool
 compiles commands.Check = false
 compiles (commands.Meaning options) = false
 compiles commands.Compile = true
+compiles (commands.Object options) = true
+compiles commands.Link = false
 compiles (commands.Run options) = true
 compiles (commands.Exec options) = false
 compiles (commands.Explain options show) = true
 compiles (commands.Judge options) = true
 compiles (commands.Make options) = false
 
--- a text that is accepted, whose program fits where it is compiled
+-- a text that is accepted, whose program has the section that is asked for, and fits where it is compiled
 pub record IsGoodText (command : Command) (bytes : List ℕ) : Type 0 where
   pub program : ProgramTree
   pub accepted : Accepts bytes program
+  pub there : HasSection command program
   pub fits : IsTrue (compiles command) → too_large program ≡ None
 
 -- what a command writes for the program of a text and its image, where the text is all that it reads and that is no
@@ -70,6 +76,8 @@ abbrev pub output : Command → ProgramTree → ImageParts → List ℕ
 output commands.Check program image = check_text program.interfaces
 output (commands.Meaning options) program image = meaning_text program.interfaces (meaning_asked options program)
 output commands.Compile program image = image_bytes image
+output (commands.Object options) program image = []
+output commands.Link program image = []
 output (commands.Run options) program image = machine_text program.interfaces options image
 output (commands.Exec options) program image = []
 output (commands.Explain options show) program image = []
@@ -83,6 +91,16 @@ pub record IsTextOutput (command : Command) (bytes text : List ℕ) : Type 0 whe
   pub accepted : Accepts bytes program
   pub compiled : IsTrue (compiles command) → HasImage program image
   pub written : text ≡ output command program image
+
+-- the bytes are an accepted text, and this is the object of its section of this name
+pub record IsObjectOutput (section : List ℕ) (bytes text : List ℕ) : Type 0 where
+  pub program : ProgramTree
+  pub accepted : Accepts bytes program
+  pub comp : ℕ
+  pub named : comp_named program.interfaces section ≡ Some comp
+  pub object : ObjectParts
+  pub is : IsObjectOf program comp object
+  pub written : text ≡ object_bytes object
 
 -- what `explain` writes: the report, or one text of the chain
 abbrev pub account : (show : Option ℕ) → SourceParts → Explanation → List ℕ
@@ -126,10 +144,12 @@ pub record IsExecuted (options : RunOptions) (bytes text : List ℕ) : Type 0 wh
   pub read : IsImage bytes
   pub written : text ≡ machine_text (image_interfaces read.image) options read.image
 
--- the text of a made program is good input of every command that takes a text, and no longer than any of them takes
+-- the text of a made program is good input of every command that takes a text and asks for no section but one that the
+-- program has, and no longer than any of them takes
 pub record IsMadeText (options : MakeOptions) (text : List ℕ) : Type 0 where
   pub written : text ≡ made_text options.size options.seed
-  pub good : (command : Command) → IsGoodText command text
+  pub good : (command : Command) → ((program : ProgramTree) → Accepts text program → HasSection command program) →
+      IsGoodText command text
   pub short : length text ≤ most_compiled
 
 -- the machine's trace on the image of a made program is explained by a chain of texts, and the text sums it up
@@ -158,4 +178,6 @@ IsOutput (commands.Make options) bytes text = IsMade options text
 IsOutput commands.Check bytes text = IsTextOutput commands.Check bytes text
 IsOutput (commands.Meaning options) bytes text = IsTextOutput (commands.Meaning options) bytes text
 IsOutput commands.Compile bytes text = IsTextOutput commands.Compile bytes text
+IsOutput (commands.Object options) bytes text = IsObjectOutput options.section bytes text
+IsOutput commands.Link bytes text = IsLinked bytes text
 IsOutput (commands.Run options) bytes text = IsTextOutput (commands.Run options) bytes text

@@ -9,10 +9,12 @@ pub(crate) fn limit(command: &Command) -> Option<u32>
 {
     match command {
         Command::Check | Command::Meaning(_) => Some(8_388_608),
-        Command::Compile | Command::Run(_) | Command::Explain(_, _) | Command::Judge(_) => {
-            Some(1_048_576)
-        }
-        Command::Exec(_) => Some(67_108_864),
+        Command::Compile
+        | Command::Object(_)
+        | Command::Run(_)
+        | Command::Explain(_, _)
+        | Command::Judge(_) => Some(1_048_576),
+        Command::Exec(_) | Command::Link => Some(67_108_864),
         Command::Make(_) => None,
     }
 }

@@ -1,16 +1,20 @@
 ghost use Rattle.std.specs.Prelude.{◌≡◌, IsSome};
 ghost use Rattle.sc_event.specs.Lookup.{comp_at};
 ghost use Rattle.sc_event.specs.Line.{comp_name};
-ghost use Rattle.sc_top.specs.Failure.{of_words_fault, of_policy_fault, of_text_fault, of_image_fault, of_read_fault};
+ghost use Rattle.sc_object.specs.Prelude.{NamesFace, face_for};
+ghost use Rattle.sc_top.specs.Failure.{of_image_fault, of_join_fault, of_objects_fault, of_policy_fault, of_read_fault};
+ghost use Rattle.sc_top.specs.Failure.{of_text_fault, of_words_fault};
+ghost use Rattle.sc_top.specs.Objects.{face_name};
 ghost use Rattle.sc_top.specs.Texts.{IsNamed, of_compile_fault};
 
-use crate::TooLarge;
 use crate::input::ReadFault;
+use crate::{BadJoin, TooLarge};
 use sc_base::{Name, OutOfMemory};
 use sc_compile::CompileFault;
 use sc_event::{CompId, Interfaces};
 use sc_image::ImageFault;
 use sc_lex::Refusal;
+use sc_object::{JoinFault, Objects, ObjectsFault};
 use sc_policy::PolicyFault;
 use sc_top_words::WordsFault;
 use sc_types::TextFault;
@@ -26,6 +30,9 @@ pub(crate) enum Failure {
     ReadFault,
     WriteFault,
     OutOfMemory,
+    BadObject { index: u32, cause: u8 },
+    BadJoin(BadJoin),
+    NoSection { comp: Name },
     BadPolicy { line: u32 },
 }
 
@@ -57,6 +64,20 @@ impl From<ReadFault> for Failure {
         match fault {
             ReadFault::Source => Failure::ReadFault,
             ReadFault::Memory => Failure::OutOfMemory,
+        }
+    }
+}
+
+impl From<ObjectsFault> for Failure {
+    ghost from_gives = { λ fault f. f ≡ of_objects_fault fault };
+
+    fn from(fault: ObjectsFault) -> Failure {
+        match fault {
+            ObjectsFault::Bad { index, cause } => Failure::BadObject {
+                index,
+                cause: cause.number(),
+            },
+            ObjectsFault::OutOfMemory => Failure::OutOfMemory,
         }
     }
 }
@@ -121,6 +142,31 @@ pub(crate) fn compile_failure(interfaces: &Interfaces, fault: CompileFault) -> F
         }),
         CompileFault::OutOfMemory => Failure::OutOfMemory,
     }
+}
+
+/// The failure that a fault of linking is, by the names that the first object gives.
+pub(crate) fn join_failure(objects: &Objects, fault: JoinFault) -> Failure
+    requires { NamesFace objects.now fault }
+    ensures { result ≡ of_join_fault objects.now fault }
+{
+    match fault {
+        JoinFault::Differ { second } => Failure::BadJoin(BadJoin::Differ { second }),
+        JoinFault::Twice { comp, .. } => Failure::BadJoin(BadJoin::Twice {
+            comp: face_name(objects, comp),
+        }),
+        JoinFault::Missing { comp } => Failure::BadJoin(BadJoin::Missing {
+            comp: face_name(objects, comp),
+        }),
+        JoinFault::OutOfMemory => Failure::OutOfMemory,
+    }
+}
+
+// The name of a compartment.
+fn face_name(objects: &Objects, comp: CompId) -> Name
+    requires { IsSome (face_for objects.now comp) }
+    ensures { result ≡ face_name objects.now comp }
+{
+    objects.face(comp).unwrap().name
 }
 
 // The name of a compartment.

@@ -7,6 +7,7 @@ ghost use Rattle.std.specs.Prelude.{◌≡◌, ◌≤◌, ℕ, List, length};
 ghost use Rattle.sc_top.specs.declared.status.Status.{Status};
 
 use sc_image::one_image;
+use sc_object::{bytes_name_one_list, one_first_bad};
 use sc_policy::{one_policy, policy_or_bad};
 use sc_types::{accepted_or_refused, one_phase, one_program};
 
@@ -25,6 +26,8 @@ pub fn one_answer()
     one_program();
     one_policy();
     policy_or_bad();
+    bytes_name_one_list();
+    one_first_bad();
 }
 
 /// A command has one output at most for its input.
@@ -35,6 +38,7 @@ pub fn one_output()
     one_program();
     one_image();
     one_policy();
+    bytes_name_one_list();
 }
 
 /// What `compile` writes is good input of `exec`, which writes for it what `run` writes for the text: the same trace

@@ -8,8 +8,10 @@ mod failure;
 mod input;
 mod judge;
 mod laws;
+mod link;
 mod machine;
 mod make;
+mod object;
 mod output;
 mod printing;
 mod status;
@@ -18,5 +20,5 @@ mod top;
 
 pub use laws::{compiled_images_run, images_are_within, one_answer, one_output};
 pub use printing::print;
-pub use status::{Status, TooLarge};
+pub use status::{BadJoin, Status, TooLarge};
 pub use top::secomp;

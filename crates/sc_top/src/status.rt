@@ -1,5 +1,5 @@
 ghost use Rattle.std.specs.Prelude.{◌≡◌};
-ghost use Rattle.sc_top.specs.Status.{status_number, phase_word, kind_text, fixed_text};
+ghost use Rattle.sc_top.specs.Status.{fixed_text, join_text, kind_text, phase_word, status_number};
 ghost use Rattle.sc_top.specs.Failure.{status_of};
 
 use crate::failure::Failure;
@@ -29,6 +29,17 @@ pub enum TooLarge {
     },
 }
 
+/// Why objects aren't linked.
+#[derive(Clone, Copy)]
+pub enum BadJoin {
+    /// The object of this index, counted from 0, says something else of the program than object 0.
+    Differ { second: u32 },
+    /// Two objects are of the compartment of this name.
+    Twice { comp: Name },
+    /// None is of the compartment of this name.
+    Missing { comp: Name },
+}
+
 /// The program's answer.
 #[derive(Clone, Copy)]
 pub enum Status {
@@ -50,6 +61,13 @@ pub enum Status {
     WriteFault,
     /// Memory ran out before anything was written.
     OutOfMemory,
+    /// The object of this index, counted from 0, is bad: the number of the first thing that is wrong with it, 1 to 9 in
+    /// the order of its bytes.
+    BadObject { index: u32, cause: u8 },
+    /// The objects aren't linked.
+    BadJoin(BadJoin),
+    /// The program has no section of this name.
+    NoSection { comp: Name },
     /// The bytes begin with no policy: the first line with which none begins, counted from 1. 4294967295 is the number
     /// of all later lines.
     BadPolicy { line: u32 },
@@ -70,6 +88,9 @@ impl Status {
             Status::ReadFault => 7,
             Status::WriteFault => 8,
             Status::OutOfMemory => 9,
+            Status::BadObject { .. } => 11,
+            Status::BadJoin(_) => 12,
+            Status::NoSection { .. } => 13,
             Status::BadPolicy { .. } => 14,
         }
     }
@@ -89,7 +110,21 @@ pub(crate) fn fixed_text(status: &Status) -> &'static [u8]
         Status::ReadFault => b"secomp: read fault\n",
         Status::WriteFault => b"secomp: write fault\n",
         Status::OutOfMemory => b"secomp: out of memory\n",
+        Status::BadObject { .. } => b"secomp: bad object ",
+        Status::BadJoin(fault) => join_text(fault),
+        Status::NoSection { .. } => b"secomp: no section ",
         Status::BadPolicy { .. } => b"secomp: bad policy line ",
+    }
+}
+
+// Why objects aren't linked, in words.
+fn join_text(fault: &BadJoin) -> &'static [u8]
+    ensures { result.now ≡ join_text fault.now }
+{
+    match fault {
+        BadJoin::Differ { .. } => b"secomp: objects differ 0 ",
+        BadJoin::Twice { .. } => b"secomp: object twice ",
+        BadJoin::Missing { .. } => b"secomp: object missing ",
     }
 }
 
@@ -131,6 +166,9 @@ impl From<Failure> for Status {
             Failure::ReadFault => Status::ReadFault,
             Failure::WriteFault => Status::WriteFault,
             Failure::OutOfMemory => Status::OutOfMemory,
+            Failure::BadObject { index, cause } => Status::BadObject { index, cause },
+            Failure::BadJoin(fault) => Status::BadJoin(fault),
+            Failure::NoSection { comp } => Status::NoSection { comp },
             Failure::BadPolicy { line } => Status::BadPolicy { line },
         }
     }

@@ -12,12 +12,15 @@ use crate::exec::execute;
 use crate::failure::Failure;
 use crate::input::read_input;
 use crate::judge::judge;
+use crate::link::link;
 use crate::make::make;
+use crate::object::object;
 use crate::output::write_text;
 use crate::printing::print;
 use crate::text::{check, compiled, meaning, run};
 use sc_base::Text;
 use sc_edge::{Sink, Source};
+use sc_object::{bytes_name_one_list, one_first_bad};
 use sc_policy::{one_policy, policy_or_bad};
 use sc_top_words::{Command, read_command};
 use sc_types::{accepted_or_refused, one_phase, one_program};
@@ -55,6 +58,8 @@ pub fn secomp<S: Source, O: Sink, E: Sink>(
     one_program();
     one_policy();
     policy_or_bad();
+    bytes_name_one_list();
+    one_first_bad();
     let status = status_by(answer(alloc, words, source, out));
     print(err, &status);
     status
@@ -111,6 +116,8 @@ fn output(alloc: Global, command: &Command, bytes: &[u8]) -> Result<Text, Failur
         Command::Check => check(alloc, bytes),
         Command::Meaning(options) => meaning(alloc, options, bytes),
         Command::Compile => compiled(alloc, bytes),
+        Command::Object(options) => object(alloc, options, bytes),
+        Command::Link => link(alloc, bytes),
         Command::Run(options) => run(alloc, options, bytes),
         Command::Exec(options) => execute(alloc, options, bytes),
         Command::Explain(options, show) => explain(alloc, options, *show, bytes),

@@ -44,7 +44,19 @@ names_of_forms = by_command _ commands (
           (refl, refl),
           (
             (refl, refl),
-            ((refl, refl), ((refl, refl), tt)),
+            (
+              (refl, refl),
+              (
+                (refl, refl),
+                (
+                  (refl, refl),
+                  (
+                    (refl, refl),
+                    tt,
+                  ),
+                ),
+              ),
+            ),
           ),
         ),
       ),

@@ -11,6 +11,6 @@ pub use Rattle.sc_top_words.specs.Options.{options, when_complete}
 unfoldable pub use Rattle.sc_top_words.specs.Options.{settings}
 pub use Rattle.sc_top_words.specs.Usage.{usage_text}
 pub use Rattle.sc_top_words.specs.Words.{command_with, commands, events, explain, form_of, inputs, limit, make}
-pub use Rattle.sc_top_words.specs.Words.{make_form, meaning_options, most_steps, parsed, run_options, text_to_show}
-pub use Rattle.sc_top_words.specs.Words.{with_values}
+pub use Rattle.sc_top_words.specs.Words.{make_form, meaning_options, most_steps, object, object_form, parsed}
+pub use Rattle.sc_top_words.specs.Words.{run_options, section, section_name, text_to_show, with_values}
 unfoldable pub use Rattle.sc_top_words.specs.Words.{command}

@@ -15,6 +15,8 @@ usage_text = lines_text (
     codes "  check     the compartments of a program, and what they import and export" ∷
     codes "  meaning   what the program does by the meaning of its source" ∷
     codes "  compile   its machine image" ∷
+    codes "  object    one section's part of that image" ∷
+    codes "  link      the machine image of all sections' objects" ∷
     codes "  run       what the machine does on that image" ∷
     codes "  explain   the same, and the sections to replace so that the source does it too" ∷
     codes "  judge     the same, and what a policy says of it" ∷
@@ -27,9 +29,11 @@ usage_text = lines_text (
     codes "  --events M   with --turns or --steps: at most M events, 0 to 4096 (1024)" ∷
     codes "  --in LIST    likewise: 1 to 65536 signed 32-bit inputs (none), as --in=-5,3" ∷
     codes "  --show K     explain: only the text after K replacements, 0 to 32" ∷
+    codes "  --section C  object, needed: the name of the section" ∷
     codes "  --size K     make, needed: how many functions, 1 to 1000" ∷
     codes "  --seed N     make, needed: which program, 0 to 4294967295" ∷
     codes "  --summary    make: a summary of the program in place of its text" ∷
     codes "In parentheses stands what holds where the option is not given." ∷
-    codes "exec reads an image, judge a policy and a text, make nothing, the others a text." ∷
+    codes "exec reads an image, link objects, judge a policy and a text, make nothing, the" ∷
+    codes "others a text." ∷
     [])

@@ -1,5 +1,5 @@
 -- The command that the words of a command line are.
-use Rattle.sc_base.specs.Prelude.{Text, most_compartments, most_events}
+use Rattle.sc_base.specs.Prelude.{Text, most_compartments, most_events, name_of}
 use Rattle.std.specs.Prelude.{ℕ, ℤ, Bool, if◌then◌else◌, List, [], ◌∷◌, codes, Option, Some, None, option_and_then}
 use Rattle.std.specs.Prelude.{option_map, find}
 use Rattle.std.specs.Str.{bytes_eq}
@@ -8,9 +8,10 @@ use Rattle.sc_top_words.specs.Numbers.{integer_list}
 use Rattle.sc_top_words.specs.Options.{Form, Given, has_option, options, given_value}
 use Rattle.sc_top_words.specs.declared.command.Command.{Command}
 use Rattle.sc_top_words.specs.declared.command.Command.TheVariants.{Check, Meaning, Compile, Run, Exec, Explain}
-use Rattle.sc_top_words.specs.declared.command.Command.TheVariants.{Judge, Make}
+use Rattle.sc_top_words.specs.declared.command.Command.TheVariants.{Judge, Link, Make, Object}
 use Rattle.sc_top_words.specs.declared.command.MakeOptions.{MakeOptions}
 use Rattle.sc_top_words.specs.declared.command.MeaningOptions.{MeaningOptions}
+use Rattle.sc_top_words.specs.declared.command.ObjectOptions.{ObjectOptions}
 use Rattle.sc_top_words.specs.declared.command.RunOptions.{RunOptions}
 
 -- ---- the commands
@@ -21,12 +22,17 @@ with_values names = record { needed = []; valued = names; flags = [] }
 abbrev pub make_form : Form
 make_form = record { needed = codes "size" ∷ codes "seed" ∷ []; valued = []; flags = codes "summary" ∷ [] }
 
+abbrev pub object_form : Form
+object_form = record { needed = codes "section" ∷ []; valued = []; flags = [] }
+
 -- the commands by their names, with the options of each
 abbrev pub commands : List (Text × Form)
 commands =
     (codes "check", with_values []) ∷
     (codes "meaning", with_values (codes "turns" ∷ codes "events" ∷ codes "in" ∷ [])) ∷
     (codes "compile", with_values []) ∷
+    (codes "object", object_form) ∷
+    (codes "link", with_values []) ∷
     (codes "run", with_values (codes "steps" ∷ codes "events" ∷ codes "in" ∷ [])) ∷
     (codes "exec", with_values (codes "steps" ∷ codes "events" ∷ codes "in" ∷ [])) ∷
     (codes "explain", with_values (codes "steps" ∷ codes "events" ∷ codes "in" ∷ codes "show" ∷ [])) ∷
@@ -90,6 +96,16 @@ explain value =
     option_and_then (λ options. option_map (λ show. Explain options show) (text_to_show (value (codes "show"))))
     (run_options value)
 
+-- the name that a section may have: an identifier, but `Env` is the environment's
+abbrev pub section_name : Text → Option Text
+section_name text = if bytes_eq text (codes "Env") then None else name_of text
+
+abbrev pub section : Values → Option Text
+section value = option_and_then section_name (value (codes "section"))
+
+abbrev pub object : Values → Option ObjectOptions
+object value = option_map (λ section. record { section = section }) (section value)
+
 abbrev pub make : Values → (summary : Bool) → Option MakeOptions
 make value summary =
     option_and_then (λ size. option_map (λ seed. record { size = size; seed = seed; summary = summary })
@@ -104,12 +120,14 @@ command_with name value summary =
     if bytes_eq name (codes "check") then Some Check
     else (if bytes_eq name (codes "meaning") then option_map Meaning (meaning_options value)
     else (if bytes_eq name (codes "compile") then Some Compile
+    else (if bytes_eq name (codes "object") then option_map Object (object value)
+    else (if bytes_eq name (codes "link") then Some Link
     else (if bytes_eq name (codes "run") then option_map Run (run_options value)
     else (if bytes_eq name (codes "exec") then option_map Exec (run_options value)
     else (if bytes_eq name (codes "explain") then explain value
     else (if bytes_eq name (codes "judge") then option_map Judge (run_options value)
     else (if bytes_eq name (codes "make") then option_map Make (make value summary)
-    else None)))))))
+    else None)))))))))
 
 -- the command that the words are
 unfoldable pub command : List Text → Option Command

@@ -1,5 +1,5 @@
-ghost use Rattle.sc_top_words.specs.Prelude.{IsArgumentOf, IsCommandOf, app_of, application, flag_rule, make_form, top};
-ghost use Rattle.sc_top_words.specs.Prelude.{valued_rule, with_values};
+ghost use Rattle.sc_top_words.specs.Prelude.{IsArgumentOf, IsCommandOf, app_of, application, flag_rule, make_form};
+ghost use Rattle.sc_top_words.specs.Prelude.{object_form, top, valued_rule, with_values};
 ghost use Rattle.std.specs.Prelude.{◌≡◌, ◌∷◌, [], codes, true, false, IfOk};
 
 use clap::{Arg, ArgAction, Command};
@@ -13,6 +13,8 @@ pub(crate) fn application<'a>(alloc: Global) -> Result<Command<'a>, AllocError>
         .subcommand(Command::new(alloc, "check"))?
         .subcommand(running(alloc, "meaning", "turns")?)?
         .subcommand(Command::new(alloc, "compile"))?
+        .subcommand(object(alloc)?)?
+        .subcommand(Command::new(alloc, "link"))?
         .subcommand(running(alloc, "run", "steps")?)?
         .subcommand(running(alloc, "exec", "steps")?)?
         .subcommand(explain(alloc)?)?
@@ -47,6 +49,12 @@ fn explain<'a>(alloc: Global) -> Result<Command<'a>, AllocError>
         (with_values (codes "steps" ∷ codes "events" ∷ codes "in" ∷ codes "show" ∷ []))) }
 {
     running(alloc, "explain", "steps")?.arg(valued(alloc, "show"))
+}
+
+fn object<'a>(alloc: Global) -> Result<Command<'a>, AllocError>
+    ensures { IfOk result (IsCommandOf (codes "object") object_form) }
+{
+    Command::new(alloc, "object").arg(needed(alloc, "section"))
 }
 
 fn make<'a>(alloc: Global) -> Result<Command<'a>, AllocError>

@@ -1,4 +1,6 @@
+use sc_base::Name;
 use sqlite_items::Items;
+use std::fmt;
 
 /// What `secomp` is asked to do, with the options of each command. An option that isn't given has its default.
 #[derive(Debug, Drop)]
@@ -9,6 +11,10 @@ pub enum Command {
     Meaning(MeaningOptions),
     /// The machine image of a program.
     Compile,
+    /// The object of a program's section of this name.
+    Object(ObjectOptions),
+    /// The machine image of objects.
+    Link,
     /// What the machine does on the image of a program.
     Run(RunOptions),
     /// What the machine does on an image.
@@ -20,6 +26,23 @@ pub enum Command {
     Judge(RunOptions),
     /// A program that is made from a seed.
     Make(MakeOptions),
+}
+
+/// Which section is compiled.
+#[derive(Clone, Copy)]
+pub struct ObjectOptions {
+    /// An identifier other than `Env`.
+    pub section: Name,
+}
+
+impl fmt::Debug for ObjectOptions {
+    fn fmt<W: fmt::Write>(&self, f: &mut fmt::Formatter<W>) -> fmt::Result {
+        write!(
+            f,
+            "ObjectOptions {{ section: {:?} }}",
+            self.section.as_bytes()
+        )
+    }
 }
 
 /// How far the source meaning runs, and on what inputs.

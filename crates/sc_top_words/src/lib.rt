@@ -4,13 +4,15 @@
 //! |---|---|
 //! | `check` | none |
 //! | `meaning` | `--turns N`, `--events M`, `--in LIST` |
-//! | `compile` | none |
+//! | `compile`, `link` | none |
+//! | `object` | `--section C` |
 //! | `run`, `exec`, `judge` | `--steps N`, `--events M`, `--in LIST` |
 //! | `explain` | `--steps N`, `--events M`, `--in LIST`, `--show K` |
 //! | `make` | `--size K`, `--seed N`, `--summary` |
 //!
 //! The first word is the command. An option is written `--name value` or `--name=value`, in any order, and at most
-//! once. A value in a word of its own doesn't begin with a hyphen. `--summary` is a flag. `make` needs its other two.
+//! once. A value in a word of its own doesn't begin with a hyphen. `--summary` is a flag. `make` needs its other two,
+//! and `object` its one.
 //! Every other word makes the words no command, also `--`, `-h`, `--help`, `help` and an abbreviation.
 //!
 //! | value | what it may be | where the option isn't given |
@@ -22,6 +24,7 @@
 //! | K of `--show` | 0 to 32 | none |
 //! | K of `--size` | 1 to 1,000 | |
 //! | N of `--seed` | 0 to 4,294,967,295 | |
+//! | C of `--section` | an identifier other than `Env` | |
 //!
 //! A number is one decimal digit or more, with no sign but the `-` of an integer. A list that begins with `-` is
 //! written `--in=-5,3`.
@@ -35,7 +38,7 @@ mod read;
 mod usage_text;
 mod values;
 
-pub use command::{Command, MakeOptions, MeaningOptions, RunOptions};
+pub use command::{Command, MakeOptions, MeaningOptions, ObjectOptions, RunOptions};
 pub use fault::WordsFault;
 pub use read::read_command;
 pub use usage_text::usage;

@@ -13,6 +13,8 @@ commands
   check     the compartments of a program, and what they import and export
   meaning   what the program does by the meaning of its source
   compile   its machine image
+  object    one section's part of that image
+  link      the machine image of all sections' objects
   run       what the machine does on that image
   explain   the same, and the sections to replace so that the source does it too
   judge     the same, and what a policy says of it
@@ -25,10 +27,12 @@ options, as --name value or --name=value, each at most once
   --events M   with --turns or --steps: at most M events, 0 to 4096 (1024)
   --in LIST    likewise: 1 to 65536 signed 32-bit inputs (none), as --in=-5,3
   --show K     explain: only the text after K replacements, 0 to 32
+  --section C  object, needed: the name of the section
   --size K     make, needed: how many functions, 1 to 1000
   --seed N     make, needed: which program, 0 to 4294967295
   --summary    make: a summary of the program in place of its text
 In parentheses stands what holds where the option is not given.
-exec reads an image, judge a policy and a text, make nothing, the others a text.
+exec reads an image, link objects, judge a policy and a text, make nothing, the
+others a text.
 "
 }

@@ -1,12 +1,14 @@
 ghost use Rattle.sc_top_words.specs.Prelude.{command_with, events, explain, flag_text, found_of, inputs, limit, make};
-ghost use Rattle.sc_top_words.specs.Prelude.{meaning_options, number_within, run_options, text_to_show};
+ghost use Rattle.sc_top_words.specs.Prelude.{meaning_options, number_within, object, run_options, section};
+ghost use Rattle.sc_top_words.specs.Prelude.{section_name, text_to_show};
 ghost use Rattle.std.specs.Prelude.{◌≡◌, Bool, true, Some, None, IfOk, IsErrOf, codes, option_and_then, option_map};
 ghost use Rattle.std.specs.Str.{bytes_eq};
 ghost use Rattle.clap.specs.Words.{first_value, one_text};
 
 use crate::numbers::{read_list, read_number};
-use crate::{Command, MakeOptions, MeaningOptions, RunOptions, WordsFault};
+use crate::{Command, MakeOptions, MeaningOptions, ObjectOptions, RunOptions, WordsFault};
 use clap::ArgMatches;
+use sc_base::Name;
 use sqlite_items::Items;
 use std::alloc::Global;
 
@@ -37,6 +39,10 @@ pub(crate) fn command_with(
         meaning(alloc, options)
     } else if name == "compile" {
         Ok(Command::Compile)
+    } else if name == "object" {
+        object(options)
+    } else if name == "link" {
+        Ok(Command::Link)
     } else if name == "run" {
         Ok(Command::Run(run_options(alloc, options)?))
     } else if name == "exec" {
@@ -90,6 +96,15 @@ fn explain(alloc: Global, options: &ArgMatches<'_>) -> Result<Command, WordsFaul
     Ok(Command::Explain(run, show))
 }
 
+fn object(options: &ArgMatches<'_>) -> Result<Command, WordsFault>
+    ensures ok { IfOk result (λ read. option_map Command.Object
+        (object (first_value (found_of options.now))) ≡ Some read) }
+    ensures usage { IsErrOf result WordsFault.Usage → object (first_value (found_of options.now)) ≡ None }
+{
+    let section = section(options).ok_or(WordsFault::Usage)?;
+    Ok(Command::Object(ObjectOptions { section }))
+}
+
 fn make(options: &ArgMatches<'_>) -> Result<Command, WordsFault>
     ensures ok { (summary : Bool) → one_text (found_of options.now) (codes "summary") ≡ Some (flag_text summary)
         → IfOk result (λ read. option_map Command.Make (make (first_value (found_of options.now)) summary) ≡
@@ -113,6 +128,27 @@ fn number_of(options: &ArgMatches<'_>, name: &str, low: u32, high: u32) -> Optio
     match options.get_str(name) {
         None => None,
         Some(text) => read_number(text, low, high),
+    }
+}
+
+// The name of a section.
+fn section(options: &ArgMatches<'_>) -> Option<Name>
+    ensures { result ≡ section (first_value (found_of options.now)) }
+{
+    match options.get_str("section") {
+        None => None,
+        Some(text) => section_name(text),
+    }
+}
+
+// The text as a name that a section may have: `Env` is the environment's.
+fn section_name(text: &str) -> Option<Name>
+    ensures { result ≡ section_name text.now }
+{
+    if text == "Env" {
+        None
+    } else {
+        Name::new(text.as_bytes())
     }
 }
 

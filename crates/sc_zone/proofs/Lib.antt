@@ -1,6 +1,11 @@
 pub mod Common
 pub mod Places
-pub mod Gaps
+pub mod Laid
 pub mod Taking
 pub mod Giving
-pub mod Numbers
+pub mod Cutting
+pub mod Joining
+pub mod Searching
+pub mod Blocks
+pub mod Tables
+pub mod Widest

@@ -1,7 +1,7 @@
 -- The least free place is the one that is free and before which none is.
 use Rattle.sc_zone.proofs.Common.{Bool, List, None, Option, Some, Span, ap, arith, eqb-false, eqb-true, false}
 use Rattle.sc_zone.proofs.Common.{if◌then◌else◌, is_free, leb-true, list_all, lt-leb, misses, nat_le, refl, subst, suc}
-use Rattle.sc_zone.proofs.Common.{sym, true, zero, zone_words, ℕ, ◌&&◌, ◌+◌, ◌<◌, ◌==◌, ◌∙◌, ◌≡◌, ◌≤◌}
+use Rattle.sc_zone.proofs.Common.{true, zero, zone_words, ℕ, ◌&&◌, ◌+◌, ◌<◌, ◌==◌, ◌∙◌, ◌≡◌, ◌≤◌}
 unfoldable use Rattle.sc_zone.proofs.Common.{first_free, least_free}
 use Rattle.std.proofs.lemmas.Bool.{and_parts}
 use Rattle.std.proofs.lemmas.Option.{same_Some}

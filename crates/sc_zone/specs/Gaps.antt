@@ -1,27 +1,27 @@
--- Blocks that don't meet, the gaps between them, and the search for the first one that is wide enough.
+-- Blocks that don't meet, and the gaps before, between and after them.
 use Rattle.sc_zone.specs.Zone.{zone_words}
-use Rattle.std.specs.Prelude.{◌≡◌, ℕ, zero, suc, ◌+◌, ◌<◌, ◌≤◌, List, [], ◌∷◌, drop}
+use Rattle.std.specs.Prelude.{◌≡◌, ◌⊎◌, ℕ, ◌+◌, ◌-◌, ◌<◌, ◌==◌, ◌≤◌, if◌then◌else◌, List, [], ◌∷◌}
 use Rattle.sc_zone.specs.declared.span.Span.{Span}
-use Rattle.sc_zone.specs.declared.zone.Gap.{Gap}
 
 -- blocks of at least a word, one after the other from a place on, that end within the zone
 abbrev pub AreLaid : (from : ℕ) → List Span → Type 0
 AreLaid from [] = from ≤ zone_words
 AreLaid from (span ∷ spans) = (from ≤ span.place) × (0 < span.words) × AreLaid (span.place + span.words) spans
 
--- before each of the first `count` blocks, from a place on, lie fewer words than `least`; the last of them ends at `to`
-abbrev pub AreNarrow : (least from count : ℕ) → List Span → (to : ℕ) → Type 0
-AreNarrow least from zero spans to = from ≡ to
-AreNarrow least from (suc count) [] to = ⊥
-AreNarrow least from (suc count) (span ∷ spans) to =
-    (span.place < from + least) × AreNarrow least (span.place + span.words) count spans to
+-- how many words the gap has that begins at a place, 0 where none does
+abbrev pub gap_from : (from : ℕ) → List Span → (place : ℕ) → ℕ
+gap_from from [] place = if place == from then zone_words - from else 0
+gap_from from (span ∷ spans) place =
+    if place == from then span.place - from else gap_from (span.place + span.words) spans place
 
--- `words` words lie between a place and the next block, if there is one
-abbrev pub IsWide : (words place : ℕ) → List Span → Type 0
-IsWide words place [] = Unit {0}
-IsWide words place (span ∷ spans) = place + words ≤ span.place
+-- how many words the gap has that ends before a place, 0 where none does
+abbrev pub gap_before : (from : ℕ) → List Span → (place : ℕ) → ℕ
+gap_before from [] place = if place == zone_words then zone_words - from else 0
+gap_before from (span ∷ spans) place =
+    if place == span.place then span.place - from else gap_before (span.place + span.words) spans place
 
--- the first gap that is wide enough, or the one after the last block
-pub record IsFound (words : ℕ) (spans : List Span) (gap : Gap) : Type 0 where
-  pub narrow : AreNarrow words 0 gap.next spans gap.place
-  pub wide : IsWide words gap.place (drop gap.next spans)
+-- the words from a place on are a gap: all that lie between two blocks, or before the first or after the last
+abbrev pub IsGap : (from : ℕ) → List Span → (place words : ℕ) → Type 0
+IsGap from [] place words = (from ≡ place) × (place + words ≡ zone_words)
+IsGap from (span ∷ spans) place words =
+    ((from ≡ place) × (place + words ≡ span.place)) ⊎ IsGap (span.place + span.words) spans place words

@@ -1,3 +1,4 @@
 pub mod Zone
 pub mod Gaps
+pub mod Tables
 pub mod Prelude

@@ -46,3 +46,8 @@ starts_at spans place = list_any (λ span. span.place == place) spans
 abbrev pub without_span : (place : ℕ) → List Span → List Span
 without_span place [] = []
 without_span place (span ∷ spans) = if span.place == place then spans else span ∷ without_span place spans
+
+-- how many words the block has that starts at a place
+abbrev pub words_at : List Span → (place : ℕ) → Option ℕ
+words_at [] place = None
+words_at (span ∷ spans) place = if span.place == place then Some span.words else words_at spans place

@@ -1,10 +1,12 @@
-ghost use Rattle.std.specs.Prelude.{◌≡◌, ◌≤◌, ◌<◌, ℕ, List, [], false, length, None, IfNone, IfOk, IfSome};
-ghost use Rattle.std.specs.List.{HoldsAt};
-ghost use Rattle.sc_zone.specs.Gaps.{AreLaid, AreNarrow, IsFound};
-ghost use Rattle.sc_zone.specs.Zone.{least_free, starts_at, taken, without_span, zone_words};
+ghost use Rattle.std.specs.Prelude.{◌≡◌, ◌≤◌, ◌<◌, ◌+◌, ◌==◌, ℕ, if◌then◌else◌, slice_index, vec_capacity, List, []};
+ghost use Rattle.std.specs.Prelude.{None, Some, IfNone, IfOk, IfSome};
+ghost use Rattle.sc_zone.specs.Gaps.{IsGap, gap_before, gap_from};
+ghost use Rattle.sc_zone.specs.Zone.{least_free, starts_at, taken, with_span, without_span, words_at, zone_words};
 ghost use Rattle.sc_zone.specs.declared.span.Span.{Span as Block};
 
 use crate::Span;
+use crate::gaps::Gaps;
+use crate::table::{number_at, put};
 use sc_base::OutOfMemory;
 use std::alloc::Global;
 use std::marker::Model;
@@ -12,35 +14,36 @@ use std::marker::Model;
 /// How many words a zone has.
 pub const ZONE_WORDS: u32 = 65_536;
 
-/// The words between two blocks: the number of the block after them, and their first.
+/// The words between two blocks, before the first or after the last.
 #[derive(Clone, Copy)]
-pub(crate) struct Gap {
-    next: usize,
+struct Gap {
     place: u32,
+    words: u32,
 }
 
 /// The blocks that were taken from a zone and not given back; contracts see their list, in the order of their places.
-/// Room for as many blocks as there are words is reserved at the start.
+/// Room for all that can be is reserved at the start.
 #[derive(Drop)]
 pub struct Zone {
-    spans: Vec<Span>,
-    // Each gap before this one has fewer words than `least`, so a search for as many begins here.
-    searched: Gap,
-    least: u32,
+    // How many words the block has that begins at each place: 0 where none does.
+    blocks: Vec<u32>,
+    gaps: Gaps,
+    // How many words the gap has that ends before each place: 0 where none does. There is none for the zone's end.
+    gaps_before: Vec<u32>,
 }
 
 impl Model for Zone {
     ghost use Rattle.std.specs.Prelude.{List, ◌≤◌, vec_capacity};
-    ghost use Rattle.sc_zone.specs.Gaps.{AreLaid, AreNarrow};
+    ghost use Rattle.sc_zone.specs.Tables.{AreTables, blocks_from};
     ghost use Rattle.sc_zone.specs.Zone.{zone_words};
     ghost use Rattle.sc_zone.specs.declared.span.Span.{Span};
 
     ghost Value = { List Span };
 
-    ghost view = { λ zone. zone.spans.items };
+    ghost view = { λ zone. blocks_from 0 zone.blocks.items };
 
-    ghost invariant = { λ zone. AreLaid 0 zone.spans.items × (zone_words ≤ vec_capacity zone.spans) ×
-        AreNarrow zone.least 0 zone.searched.next zone.spans.items zone.searched.place };
+    ghost invariant = { λ zone. AreTables zone.blocks.items zone.gaps.words.items zone.gaps_before.items ×
+        (zone_words ≤ vec_capacity zone.blocks) × (zone_words ≤ vec_capacity zone.gaps_before) };
 }
 
 impl Zone {
@@ -48,28 +51,26 @@ impl Zone {
     pub fn new(alloc: Global) -> Result<Zone, OutOfMemory>
         ensures { IfOk result (λ zone. zone ≡ []) }
     {
+        let blocks = Vec::with_capacity(alloc, ZONE_WORDS as usize)?;
+        let mut gaps = Gaps::new(alloc)?;
+        let gaps_before = Vec::with_capacity(alloc, ZONE_WORDS as usize)?;
+        gaps.set(0, ZONE_WORDS);
         Ok(Zone {
-            spans: Vec::with_capacity(alloc, ZONE_WORDS as usize)?,
-            searched: Gap { next: 0, place: 0 },
-            least: 0,
+            blocks,
+            gaps,
+            gaps_before,
         })
     }
 
-    /// The blocks, in the order of their places.
-    pub fn spans(&self) -> &[Span]
-        ensures { result.now ≡ self.now }
+    /// How many words the block has that starts at a place.
+    pub fn words_at(&self, place: u32) -> Option<u32>
+        ensures { result ≡ words_at self.now place }
     {
-        self.spans.as_slice()
-    }
-
-    // Where a search for this many words begins.
-    fn first_gap(&self, words: u32) -> Gap
-        ensures { AreNarrow words 0 result.next self.now result.place }
-    {
-        if words < self.least {
-            return Gap { next: 0, place: 0 };
+        let words = number_at(&self.blocks, place as usize);
+        if words == 0 {
+            return None;
         }
-        self.searched
+        Some(words)
     }
 
     /// Takes this many words, from the least place from which they are free: `None` where they are free from none, or
@@ -79,18 +80,9 @@ impl Zone {
         ensures spans { self.new ≡ taken words result self.old }
     {
         let words = count_of(words)?;
-        let from = self.first_gap(words);
-        let gap = search(self.spans.as_slice(), words, from);
-        self.searched = gap;
-        self.least = words;
-        if gap.place + words > ZONE_WORDS {
-            return None;
-        }
-        let place = gap.place;
-        match self.spans.insert(gap.next, Span { place, words }) {
-            Ok(()) => Some(place),
-            Err(_) => None,
-        }
+        let gap = self.first_gap(words)?;
+        self.cut(gap, words);
+        Some(gap.place)
     }
 
     /// Gives back the block that starts at a place; whether there is one. Takes no memory.
@@ -98,12 +90,79 @@ impl Zone {
         ensures there { result ≡ starts_at self.old place }
         ensures spans { self.new ≡ without_span place self.old }
     {
-        let Some(number) = number_of(self.spans.as_slice(), place) else {
+        let Some(words) = self.words_at(place) else {
             return false;
         };
-        self.searched = before(self.spans.as_slice(), number, self.searched);
-        self.spans.remove(number);
+        let block = Span { place, words };
+        let gap = self.joined(block);
+        self.join(block, gap);
         true
+    }
+
+    // The first gap that has so many words.
+    fn first_gap(&self, words: u32) -> Option<Gap>
+        requires { 0 < words }
+        ensures gap { IfSome result (λ gap. IsGap 0 self.now gap.place gap.words) }
+        ensures fits { IfSome result (λ gap. words ≤ gap.words) }
+        ensures least { IfSome result (λ gap. least_free self.now words ≡ Some gap.place) }
+        ensures none { IfNone result (least_free self.now words ≡ None) }
+    {
+        let place = self.gaps.first_from(words)?;
+        let words = self.gaps.get(place);
+        Some(Gap {
+            place: place as u32,
+            words,
+        })
+    }
+
+    // Takes a block from the start of a gap.
+    fn cut(&mut self, gap: Gap, words: u32)
+        requires gap { IsGap 0 self.old gap.place gap.words }
+        requires some { 0 < words }
+        requires fits { words ≤ gap.words }
+        ensures { self.new ≡ with_span (record { place = gap.place; words = words }) self.old }
+    {
+        let place = gap.place as usize;
+        let rest = gap.words - words;
+        put(&mut self.blocks, place, words);
+        self.gaps.set(place, 0);
+        self.gaps.set(place + words as usize, rest);
+        put_before(&mut self.gaps_before, place + gap.words as usize, rest);
+    }
+
+    // The gap that there is once a block is given back.
+    fn joined(&self, block: Span) -> Gap
+        requires { words_at self.now block.place ≡ Some block.words }
+        ensures place { result.place + gap_before 0 self.now block.place ≡ block.place }
+        ensures words { result.words ≡
+            gap_before 0 self.now block.place + block.words + gap_from 0 self.now (block.place + block.words) }
+    {
+        let before = number_at(&self.gaps_before, block.place as usize);
+        let after = self.gaps.get((block.place + block.words) as usize);
+        Gap {
+            place: block.place - before,
+            words: before + block.words + after,
+        }
+    }
+
+    // Gives back a block, where this is the gap that there is then.
+    fn join(&mut self, block: Span, gap: Gap)
+        requires block { words_at self.old block.place ≡ Some block.words }
+        requires place { gap.place + gap_before 0 self.old block.place ≡ block.place }
+        requires words { gap.words ≡
+            gap_before 0 self.old block.place + block.words + gap_from 0 self.old (block.place + block.words) }
+        ensures { self.new ≡ without_span block.place self.old }
+    {
+        let place = block.place as usize;
+        put(&mut self.blocks, place, 0);
+        self.gaps.set(place + block.words as usize, 0);
+        self.gaps.set(gap.place as usize, gap.words);
+        put_before(&mut self.gaps_before, place, 0);
+        put_before(
+            &mut self.gaps_before,
+            (gap.place + gap.words) as usize,
+            gap.words,
+        );
     }
 }
 
@@ -121,58 +180,14 @@ fn count_of(words: u64) -> Option<u32>
     Some(words as u32)
 }
 
-// The gap where a search begins once the block of this number is gone: the one before it, if all before that are known
-// to be narrow.
-fn before(spans: &[Span], number: usize, searched: Gap) -> Gap
-    requires within { number < length spans.now }
-    requires laid { AreLaid 0 spans.now }
-    ensures within { result.next ≤ number }
-    ensures narrow { (least : ℕ) → AreNarrow least 0 searched.next spans.now searched.place →
-        AreNarrow least 0 result.next spans.now result.place }
+// Sets how many words the gap has that ends before a place, unless that is the zone's end.
+fn put_before(gaps_before: &mut Vec<u32>, place: usize, words: u32)
+    requires { zone_words ≤ vec_capacity gaps_before.old }
+    ensures numbers { (k : ℕ) → k < zone_words → slice_index gaps_before.new.items k ≡
+        if k == place then words else slice_index gaps_before.old.items k }
+    ensures capacity { vec_capacity gaps_before.old ≤ vec_capacity gaps_before.new }
 {
-    if number >= searched.next {
-        return searched;
+    if place < ZONE_WORDS as usize {
+        put(gaps_before, place, words);
     }
-    let place = match number.checked_sub(1) {
-        None => 0,
-        Some(last) => spans[last].place + spans[last].words,
-    };
-    Gap {
-        next: number,
-        place,
-    }
-}
-
-// The number of the block that starts at a place.
-fn number_of(spans: &[Span], place: u32) -> Option<usize>
-    ensures within { IfSome result (λ number. number < length spans.now) }
-    ensures found { IfSome result (HoldsAt (λ span. span.place ≡ place) spans.now) }
-    ensures none { IfNone result (AreLaid 0 spans.now → false ≡ starts_at spans.now place) }
-    ensures stays { IfNone result (AreLaid 0 spans.now → spans.now ≡ without_span place spans.now) }
-{
-    match spans.binary_search_by_key(&place, |span| span.place) {
-        Ok(number) => Some(number),
-        Err(_) => None,
-    }
-}
-
-// The first gap, from one on, with this many words, or the one after the last block.
-fn search(spans: &[Span], words: u32, from: Gap) -> Gap
-    requires few { words ≤ zone_words }
-    requires laid { AreLaid 0 spans.now }
-    requires narrow { AreNarrow words 0 from.next spans.now from.place }
-    ensures found { IsFound words spans.now result }
-{
-    let mut gap = from;
-    while gap.next < spans.len() {
-        let span = spans[gap.next];
-        if gap.place + words <= span.place {
-            return gap;
-        }
-        gap = Gap {
-            next: gap.next + 1,
-            place: span.place + span.words,
-        };
-    }
-    gap
 }

@@ -30,11 +30,11 @@ fn sizes_of(alloc: Global, code: &Tac) -> Result<Vec<Sizes>, OutOfMemory> {
 #[test]
 fn code_has_these_sizes(rt: HostRuntime) -> Result<(), Fail> {
     let cases: [(&[u8], &[Sizes]); 5] = [
-        (STORE, &[(6, 78, 0, 10), (4, 89, 0, 10)]),
-        (LOOPS, &[(25, 426, 5, 48)]),
-        (LEFT_OUT, &[(11, 185, 3, 17)]),
-        (BLOCKS, &[(25, 435, 1, 47)]),
-        (MEMBERS, &[(16, 326, 1, 33), (9, 155, 0, 18)]),
+        (STORE, &[(6, 78, 0, 10), (5, 89, 0, 10)]),
+        (LOOPS, &[(34, 426, 5, 48)]),
+        (LEFT_OUT, &[(15, 185, 3, 17)]),
+        (BLOCKS, &[(34, 435, 1, 47)]),
+        (MEMBERS, &[(23, 326, 1, 33), (14, 155, 0, 18)]),
     ];
     for (text, want) in cases {
         let code = lowered(rt.alloc(), text)?;

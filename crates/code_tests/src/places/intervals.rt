@@ -41,19 +41,22 @@ fn ends_in(alloc: Global, code: &Tac) -> Result<Vec<Ends>, OutOfMemory> {
 fn intervals_end_where_a_value_is_read(rt: HostRuntime) -> Result<(), Fail> {
     let code = lowered(rt.alloc(), LOOP)?;
     let found = ends_in(rt.alloc(), &code)?;
-    let want: [Ends; 14] = [
+    let want: [Ends; 17] = [
         (1, 8),
-        (5, 10),
+        (5, 8),
+        (9, 10),
         (1, 4),
         (3, 4),
         (8, 13),
-        (12, 15),
+        (12, 13),
+        (14, 15),
         (18, 23),
         (22, 23),
         (25, 28),
         (27, 28),
         (31, 36),
-        (35, 40),
+        (35, 36),
+        (37, 40),
         (39, 40),
         (44, 47),
     ];
@@ -79,6 +82,6 @@ fn many_temporaries(rt: HostRuntime) -> Result<(), Fail> {
     for (first, last) in found.as_slice() {
         assert!(rt; last.wrapping_sub(*first) < 8);
     }
-    assert_eq!(rt; found.len(), 3_003);
+    assert_eq!(rt; found.len(), 4_003);
     Ok(())
 }

@@ -210,9 +210,9 @@ fn all_sizes(alloc: Global, code: &Tac) -> Result<Vec<(u32, u32, u32)>, OutOfMem
 
 #[test]
 fn a_hundred_thousand_temporaries(rt: HostRuntime) -> Result<(), Fail> {
-    let text = repeated(rt.alloc(), BEGIN, b"  x = x + 1;\n", 33_333, RETURNED)?;
+    let text = repeated(rt.alloc(), BEGIN, b"  x = x + 1;\n", 25_000, RETURNED)?;
     let code = lowered(rt.alloc(), text.as_slice())?;
     let all = all_sizes(rt.alloc(), &code)?;
-    assert!(rt; all.as_slice() == [(100_002, 0, 8)].as_slice());
+    assert!(rt; all.as_slice() == [(100_003, 0, 8)].as_slice());
     Ok(())
 }

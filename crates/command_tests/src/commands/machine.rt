@@ -1,5 +1,6 @@
 // The commands that compile and run.
 use chain_texts::programs::{GREATEST_OUTPUT, SEVEN};
+use code_texts::CONSTANTS;
 use memory_runs::Run;
 use std::test::Fail;
 
@@ -56,5 +57,24 @@ fn an_image_is_written_field_by_field(rt: HostRuntime) -> Result<(), Fail> {
     }
     let ran = Run::new("compile", SEVEN).run(rt.alloc())?;
     assert!(rt; ran.wrote(0, want.as_slice(), b""));
+    Ok(())
+}
+
+// What `CONSTANTS` comes to.
+const FOURTEEN: &[u8] = b"#pragma compartment Main
+#pragma import Env output
+void output(int v);
+int main(void) {
+  output(14);
+  return 0;
+}
+";
+
+#[test]
+fn operators_on_constants_take_no_code(rt: HostRuntime) -> Result<(), Fail> {
+    let folded = Run::new("compile", CONSTANTS).run(rt.alloc())?;
+    let written = Run::new("compile", FOURTEEN).run(rt.alloc())?;
+    assert_eq!(rt; folded.status, 0);
+    assert_eq!(rt; folded.out.len(), written.out.len());
     Ok(())
 }

@@ -1,5 +1,6 @@
 use sc_image::{ImageFault, image_interfaces, read_image, write_image};
 use std::alloc::Global;
+use std::test::Fail;
 
 // The image of `seven` in version 2: a compartment `M` that outputs 7 and returns 0.
 const SEVEN: &[u8] = b"SCIM\x02\x00\x01\x00\x00\x00\x00\x01\
@@ -9,7 +10,7 @@ const SEVEN: &[u8] = b"SCIM\x02\x00\x01\x00\x00\x00\x00\x01\
 \x00\x00\x00\x00";
 
 #[test]
-fn reads_and_writes_an_image(rt: HostRuntime) -> Result<(), ImageFault> {
+fn reads_and_writes_an_image(rt: HostRuntime) -> Result<(), Fail> {
     let image = read_image(rt.alloc(), SEVEN)?;
     let text = write_image(rt.alloc(), &image)?;
     assert_eq!(rt; text.as_bytes(), SEVEN);
@@ -19,7 +20,7 @@ fn reads_and_writes_an_image(rt: HostRuntime) -> Result<(), ImageFault> {
 }
 
 // The number of the cause, 0 where there is none.
-fn cause(alloc: Global, bytes: &[u8]) -> u8 {
+pub(crate) fn cause(alloc: Global, bytes: &[u8]) -> u8 {
     match read_image(alloc, bytes) {
         Err(ImageFault::Bad(cause)) => cause.number(),
         _ => 0,

@@ -14,13 +14,13 @@ const START: u32 = 0x01000000;
 const STACK_TOP: u32 = 0x10010000;
 
 // An image's compartment: its name with what it offers and may call, and its code and globals.
-type Part<'a> = (&'a [u8], &'a [u32], &'a [u8]);
+pub(crate) type Part<'a> = (&'a [u8], &'a [u32], &'a [u8]);
 
 fn append_size(file: &mut Text, size: usize) -> Result<(), OutOfMemory> {
     file.append(&u32::try_from(size).unwrap_or(u32::MAX).to_le_bytes())
 }
 
-fn append_part(file: &mut Text, part: Part<'_>) -> Result<(), OutOfMemory> {
+pub(crate) fn append_part(file: &mut Text, part: Part<'_>) -> Result<(), OutOfMemory> {
     let (interface, code, globals) = part;
     file.append(interface)?;
     append_size(file, code.len().saturating_mul(4))?;
@@ -53,7 +53,7 @@ fn single(alloc: Global, output: bool, code: &[u32], globals: &[u8]) -> Result<I
     image(alloc, &[(interface, code, globals)])
 }
 
-fn loaded(
+pub(crate) fn loaded(
     alloc: Global,
     image: Image,
     inputs: &[i32],
@@ -105,7 +105,7 @@ fn outputs_and_ends(rt: HostRuntime) -> Result<(), Fail> {
     Ok(())
 }
 
-fn trap(reason: TrapReason, offset: u32) -> Stop
+pub(crate) fn trap(reason: TrapReason, offset: u32) -> Stop
     requires { offset < 4096 }
 {
     Trap {

@@ -1,5 +1,5 @@
 use Rattle.sc_image.proofs.Common.{read_comp, err_from_is_err_and, fields_at}
-use Rattle.sc_image.proofs.Loops.{begins, goes_on, ends, is_done}
+use Rattle.sc_fields.proofs.Loops.{begins, goes_on, ends, is_done}
 use Rattle.sc_image.proofs.reading.comps_at.Goals as goal
 
 pub loop-init : goal.loop-init

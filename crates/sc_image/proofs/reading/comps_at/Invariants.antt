@@ -1,5 +1,5 @@
 use Rattle.sc_image.proofs.Common.{read_comp, fields_at, ◌-◌, ◌≡◌}
-use Rattle.sc_image.proofs.Loops.{with_prefix}
+use Rattle.sc_fields.proofs.Loops.{with_prefix}
 use Rattle.sc_image.proofs.reading.comps_at.Given as goal
 
 abbrev pub invariant-loop : goal.invariant-loop

@@ -1,6 +1,6 @@
 use Rattle.sc_image.proofs.Common.{err_from_is_err_and, fields_at}
 use Rattle.sc_image.specs.Reading.{read_export}
-use Rattle.sc_image.proofs.Loops.{begins, goes_on, ends, is_done}
+use Rattle.sc_fields.proofs.Loops.{begins, goes_on, ends, is_done}
 use Rattle.sc_image.proofs.reading.several_exports.Goals as goal
 
 pub loop-init : goal.loop-init

@@ -1,6 +1,6 @@
 use Rattle.sc_image.proofs.Common.{fields_at, ◌-◌, ◌≡◌}
 use Rattle.sc_image.specs.Reading.{read_export}
-use Rattle.sc_image.proofs.Loops.{with_prefix}
+use Rattle.sc_fields.proofs.Loops.{with_prefix}
 use Rattle.sc_image.proofs.reading.several_exports.Given as goal
 
 abbrev pub invariant-loop : goal.invariant-loop

@@ -1,4 +1,4 @@
-use Rattle.sc_machine.proofs.Common.{execute_by, map, state_in, word_of}
+use Rattle.sc_machine.proofs.Common.{Goes, ap, at, execute_by, map, state_in, word_of}
 use Rattle.sc_machine.proofs.execute.execute.Goals as goal
 
 pub returns-in-Load-clause-outcome : goal.returns-in-Load-clause-outcome
@@ -29,21 +29,25 @@ returns-in-Jalr-clause-outcome g c = rw c.in-Jalr.is (c.jalr.ensures.outcome (ma
     (g.S.Store.bytes c.args.memory.now))
 
 pub returns-in-Upper-clause-outcome : goal.returns-in-Upper-clause-outcome
+unfolding execute_by
 returns-in-Upper-clause-outcome g c =
     let state = state_in (g.S.Store.bytes c.args.memory.now) c.args.hart.now in
-    rw c.in-Upper.is (c.upper.ensures c.args.here.now.image (map word_of c.args.inputs.now) state)
+    rw c.in-Upper.is (ap (λ core. Goes (at state core)) c.upper.ensures)
 
 pub returns-in-OpImm-clause-outcome : goal.returns-in-OpImm-clause-outcome
+unfolding execute_by
 returns-in-OpImm-clause-outcome g c =
     let state = state_in (g.S.Store.bytes c.args.memory.now) c.args.hart.now in
-    rw c.in-OpImm.is (c.op_imm.ensures c.args.here.now.image (map word_of c.args.inputs.now) state)
+    rw c.in-OpImm.is (ap (λ core. Goes (at state core)) c.op_imm.ensures)
 
 pub returns-in-Shift-clause-outcome : goal.returns-in-Shift-clause-outcome
+unfolding execute_by
 returns-in-Shift-clause-outcome g c =
     let state = state_in (g.S.Store.bytes c.args.memory.now) c.args.hart.now in
-    rw c.in-Shift.is (c.shift.ensures c.args.here.now.image (map word_of c.args.inputs.now) state)
+    rw c.in-Shift.is (ap (λ core. Goes (at state core)) c.shift.ensures)
 
 pub returns-in-Op-clause-outcome : goal.returns-in-Op-clause-outcome
+unfolding execute_by
 returns-in-Op-clause-outcome g c =
     let state = state_in (g.S.Store.bytes c.args.memory.now) c.args.hart.now in
-    rw c.in-Op.is (c.op.ensures c.args.here.now.image (map word_of c.args.inputs.now) state)
+    rw c.in-Op.is (ap (λ core. Goes (at state core)) c.op.ensures)

@@ -1,5 +1,5 @@
-use Rattle.sc_machine.proofs.Common.{active_in, add_word, at, jump_outside, execute_by, leaves, slice_index, word_of}
-use Rattle.sc_machine.proofs.Common.{◌*◌, ◌/◌}
+use Rattle.sc_machine.proofs.Common.{Goes, active_in, add_word, ap, at, jump_outside, execute_by, leaves, slice_index}
+use Rattle.sc_machine.proofs.Common.{word_of, ◌*◌, ◌/◌}
 use Rattle.sc_machine.proofs.Runs.{goes_if}
 use Rattle.sc_machine.proofs.quick.execute_quick.Goals as goal
 
@@ -26,21 +26,25 @@ returns-in-Jalr-clause-goes g c = λ went inputs state.
     c.in-Jalr.rd (add_word (slice_index c.args.core.now.registers c.in-Jalr.rs1) (word_of c.in-Jalr.imm) / 2 * 2))))
 
 pub returns-in-Upper-clause-goes : goal.returns-in-Upper-clause-goes
+unfolding execute_by
 returns-in-Upper-clause-goes g c = λ went inputs state.
     let there = active_in c.args.here.now.comp (g.S.Store.bytes c.args.memory.now) state in
-    rw c.in-Upper.is (c.upper.ensures c.args.here.now.image inputs there)
+    rw c.in-Upper.is (ap (λ core. Goes (at there core)) c.upper.ensures)
 
 pub returns-in-OpImm-clause-goes : goal.returns-in-OpImm-clause-goes
+unfolding execute_by
 returns-in-OpImm-clause-goes g c = λ went inputs state.
     let there = active_in c.args.here.now.comp (g.S.Store.bytes c.args.memory.now) state in
-    rw c.in-OpImm.is (c.op_imm.ensures c.args.here.now.image inputs there)
+    rw c.in-OpImm.is (ap (λ core. Goes (at there core)) c.op_imm.ensures)
 
 pub returns-in-Shift-clause-goes : goal.returns-in-Shift-clause-goes
+unfolding execute_by
 returns-in-Shift-clause-goes g c = λ went inputs state.
     let there = active_in c.args.here.now.comp (g.S.Store.bytes c.args.memory.now) state in
-    rw c.in-Shift.is (c.shift.ensures c.args.here.now.image inputs there)
+    rw c.in-Shift.is (ap (λ core. Goes (at there core)) c.shift.ensures)
 
 pub returns-in-Op-clause-goes : goal.returns-in-Op-clause-goes
+unfolding execute_by
 returns-in-Op-clause-goes g c = λ went inputs state.
     let there = active_in c.args.here.now.comp (g.S.Store.bytes c.args.memory.now) state in
-    rw c.in-Op.is (c.op.ensures c.args.here.now.image inputs there)
+    rw c.in-Op.is (ap (λ core. Goes (at there core)) c.op.ensures)

@@ -12,7 +12,7 @@ pub returns-in_err-explanation-clause-cause : goal.returns-in_err-explanation-cl
 returns-in_err-explanation-clause-cause c =
     let cause = compiled_cause (Explain c.args.options.now c.args.show) c.args.bytes.now c.args.bytes.now
     c.in_ok-source.source.program c.in_ok-source.source.program _ (λ Q q. q) refl
-    c.in_ok-source.ensures.accepted.1 refl c.in_err-explanation.ensures.cause in
+    c.in_ok-source.ensures.accepted.1 refl refl c.in_err-explanation.ensures.cause in
     search (rules, cause)
 
 pub returns-clause-ok : goal.returns-clause-ok

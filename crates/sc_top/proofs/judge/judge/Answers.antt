@@ -11,7 +11,7 @@ returns-in_err-explanation-clause-cause c =
     compiled_cause (Judge c.args.options.now) c.args.bytes.now (drop c.in_ok-read.read.rest c.args.bytes.now)
     source.program source.program _
     (λ Q q. record { read = c.in_ok-read.read; is = c.in_ok-read.ensures.read; holds = q }) refl
-    (subst (λ (text : List ℕ). Accepts text source.program) whole c.in_ok-source.ensures.accepted.1) refl
+    (subst (λ (text : List ℕ). Accepts text source.program) whole c.in_ok-source.ensures.accepted.1) refl refl
     c.in_err-explanation.ensures.cause in
     search (rules, cause)
 

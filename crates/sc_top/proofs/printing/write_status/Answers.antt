@@ -40,6 +40,27 @@ returns-in-BadImage g c =
     ap (λ n. decimal n ++ codes "\n")
     (sym c.from-in-BadImage.ensures))) fixed.ok fixed.counted c.write_number-in-BadImage.ensures
 
+pub returns-in-BadObject : goal.returns-in-BadObject
+returns-in-BadObject g c =
+    let fixed = c.in_ok-write_text.ensures in
+    then_wrote _ c.fixed_text.result.now _ c.write_object.result _ _ _ _ _ _
+    (ap₂ (λ f own. f ++ own) (sym c.fixed_text.ensures)
+    (ap own_text c.in-BadObject.is)) fixed.ok fixed.counted c.write_object.ensures
+
+pub returns-in-BadJoin : goal.returns-in-BadJoin
+returns-in-BadJoin g c =
+    let fixed = c.in_ok-write_text.ensures in
+    then_wrote _ c.fixed_text.result.now _ c.write_join.result _ _ _ _ _ _
+    (ap₂ (λ f own. f ++ own) (sym c.fixed_text.ensures)
+    (ap own_text c.in-BadJoin.is)) fixed.ok fixed.counted c.write_join.ensures
+
+pub returns-in-NoSection : goal.returns-in-NoSection
+returns-in-NoSection g c =
+    let fixed = c.in_ok-write_text.ensures in
+    then_wrote _ c.fixed_text.result.now _ c.write_last_name.result _ _ _ _ _ _
+    (ap₂ (λ f own. f ++ own) (sym c.fixed_text.ensures)
+    (ap own_text c.in-NoSection.is)) fixed.ok fixed.counted c.write_last_name.ensures
+
 pub returns-in-BadPolicy : goal.returns-in-BadPolicy
 returns-in-BadPolicy g c =
     let fixed = c.in_ok-write_text.ensures in

@@ -6,7 +6,7 @@ pub returns-in_err-image-clause-cause : goal.returns-in_err-image-clause-cause
 returns-in_err-image-clause-cause c =
     let cause = compiled_cause Compile c.args.bytes.now c.args.bytes.now c.in_ok-source.source.program _ _ (λ Q q. q)
     c.program.ensures.program
-    c.in_ok-source.ensures.accepted.1 refl c.in_err-image.ensures.cause in
+    c.in_ok-source.ensures.accepted.1 refl refl c.in_err-image.ensures.cause in
     search (rules, cause)
 
 pub returns-clause-ok : goal.returns-clause-ok

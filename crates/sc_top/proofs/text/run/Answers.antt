@@ -7,7 +7,7 @@ returns-in_err-image-clause-cause c =
     let cause =
     compiled_cause (Run c.args.options.now) c.args.bytes.now c.args.bytes.now c.in_ok-source.source.program _ _
     (λ Q q. q)
-    c.program-program.ensures.program c.in_ok-source.ensures.accepted.1 refl c.in_err-image.ensures.cause in
+    c.program-program.ensures.program c.in_ok-source.ensures.accepted.1 refl refl c.in_err-image.ensures.cause in
     search (rules, cause)
 
 pub returns-clause-ok : goal.returns-clause-ok

@@ -1,6 +1,6 @@
 use Rattle.sc_top_words.proofs.Common.{App, Form, IfOk-weaker, IsCommandOf, List, Shape, Text, [], ap, app_of, ap₂}
 use Rattle.sc_top_words.proofs.Common.{codes, false, make_form, shape_with, top, ◌++◌, ◌∙◌, ◌∷◌, ◌≡◌}
-use Rattle.sc_top_words.specs.Prelude.{with_values}
+use Rattle.sc_top_words.specs.Prelude.{object_form, with_values}
 use Rattle.clap.specs.Words.{AddsSubcommand, with_subcommand}
 use Rattle.clap.specs.declared.builder.command.Command.{Command}
 use Rattle.sc_top_words.proofs.application.application.Goals as goal
@@ -27,14 +27,18 @@ returns c =
     (codes "turns")) c.in_ok-subcommand-2.ensures one c.in_ok-running.ensures in
     let three = added _ _ _ _ (codes "compile") (with_values []) c.in_ok-subcommand-3.ensures two
     (c.new-2.ensures.app, c.new-2.ensures.local) in
-    let four = added _ _ _ _ (codes "run") (limited (codes "steps")) c.in_ok-subcommand-4.ensures three
+    let four = added _ _ _ _ (codes "object") object_form c.in_ok-subcommand-4.ensures three
+    c.in_ok-object.ensures in
+    let five = added _ _ _ _ (codes "link") (with_values []) c.in_ok-subcommand-5.ensures four
+    (c.new-3.ensures.app, c.new-3.ensures.local) in
+    let six = added _ _ _ _ (codes "run") (limited (codes "steps")) c.in_ok-subcommand-6.ensures five
     c.in_ok-running-2.ensures in
-    let five = added _ _ _ _ (codes "exec") (limited (codes "steps")) c.in_ok-subcommand-5.ensures four
+    let seven = added _ _ _ _ (codes "exec") (limited (codes "steps")) c.in_ok-subcommand-7.ensures six
     c.in_ok-running-3.ensures in
-    let six = added _ _ _ _ (codes "explain") (with_values
+    let eight = added _ _ _ _ (codes "explain") (with_values
     (codes "steps" ∷ codes "events" ∷ codes "in" ∷ codes "show" ∷
-    [])) c.in_ok-subcommand-6.ensures five c.in_ok-explain.ensures in
-    let seven = added _ _ _ _ (codes "judge") (limited (codes "steps")) c.in_ok-subcommand-7.ensures six
+    [])) c.in_ok-subcommand-8.ensures seven c.in_ok-explain.ensures in
+    let nine = added _ _ _ _ (codes "judge") (limited (codes "steps")) c.in_ok-subcommand-9.ensures eight
     c.in_ok-running-4.ensures in
-    IfOk-weaker c.subcommand-8.result _ _ (λ secomp adds.
-    added _ _ secomp _ (codes "make") make_form adds seven c.in_ok-make.ensures) c.subcommand-8.ensures
+    IfOk-weaker c.subcommand-10.result _ _ (λ secomp adds.
+    added _ _ secomp _ (codes "make") make_form adds nine c.in_ok-make.ensures) c.subcommand-10.ensures

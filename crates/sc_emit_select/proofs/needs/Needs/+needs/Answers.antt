@@ -4,5 +4,5 @@ use Rattle.sc_emit_select.proofs.needs.Needs.+needs.Goals as goal
 pub row-loop-stmt-preserved : goal.row-loop-stmt-preserved
 row-loop-stmt-preserved t c final rest =
     c.loop-stmt.invariant final
-    (row_marked _ _ _ _ _ _ _ _ _ c.loop-stmt-test.true c.stmt-item.is c.stored.ensures c.gives-before.ensures
-    c.place.ensures c.stmt.ensures final rest)
+    (row_marked _ _ _ _ _ _ _ _ _ c.loop-stmt-test.true c.stmt-item.is c.takes.ensures c.gives-before.ensures
+    c.taken.ensures c.stmt.ensures final rest)

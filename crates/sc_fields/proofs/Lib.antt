@@ -1,0 +1,4 @@
+pub mod Common
+pub mod Fields
+pub mod Loops
+pub mod Compartments

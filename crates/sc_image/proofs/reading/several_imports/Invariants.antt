@@ -1,7 +1,0 @@
-use Rattle.sc_image.proofs.Common.{fields_at, import_at, ◌-◌, ◌≡◌}
-use Rattle.sc_image.proofs.Loops.{with_prefix}
-use Rattle.sc_image.proofs.reading.several_imports.Given as goal
-
-abbrev pub invariant-loop : goal.invariant-loop
-invariant-loop l = with_prefix l.imports (fields_at (import_at l.comps) (l.count - l.counter) l.bytes.now) ≡
-    fields_at (import_at l.comps) l.count l.fn.bytes.now

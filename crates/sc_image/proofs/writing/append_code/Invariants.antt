@@ -1,5 +1,0 @@
-use Rattle.sc_image.proofs.Common.{flat_map, little_bytes, take, ◌++◌, ◌≡◌}
-use Rattle.sc_image.proofs.writing.append_code.Given as goal
-
-abbrev pub invariant-loop-word : goal.invariant-loop-word
-invariant-loop-word l = l.text ≡ l.initial.text ++ flat_map (little_bytes 4) (take l.word-index l.code)

@@ -1,5 +1,0 @@
-use Rattle.sc_image.proofs.Common.{flat_map, import_bytes, take, ◌++◌, ◌≡◌}
-use Rattle.sc_image.proofs.writing.append_imports.Given as goal
-
-abbrev pub invariant-loop-import : goal.invariant-loop-import
-invariant-loop-import l = l.text ≡ l.initial.text ++ flat_map import_bytes (take l.import-index l.imports)

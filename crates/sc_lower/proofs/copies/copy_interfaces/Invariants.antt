@@ -1,5 +1,0 @@
-use Rattle.sc_lower.proofs.Common.{drop, ◌++◌, ◌≡◌}
-use Rattle.sc_lower.proofs.copies.copy_interfaces.Given as goal
-
-abbrev pub invariant-loop-interface : goal.invariant-loop-interface
-invariant-loop-interface l = l.comps ++ drop l.interface-index l.interfaces.comps ≡ l.interfaces.comps

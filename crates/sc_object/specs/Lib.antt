@@ -1,0 +1,9 @@
+pub mod Prelude
+pub mod Bytes
+pub mod Rules
+pub mod Reading
+pub mod WellFormed
+pub mod RoundTrip
+pub mod Joining
+pub mod Linking
+pub mod Laws

@@ -1,0 +1,5 @@
+mod Common
+mod Linear
+mod Lifting
+mod Owners
+mod Agree

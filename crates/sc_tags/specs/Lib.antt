@@ -1,0 +1,7 @@
+pub mod Common
+pub mod Prelude
+pub mod Tags
+pub mod Tagged
+pub mod Levels
+pub mod TagStep
+pub mod TagLaws

@@ -1,0 +1,20 @@
+use sc_event::CompId;
+
+/// What a byte of memory is tagged as.
+#[derive(Clone, Copy, Debug, PartialEq, Eq)]
+pub enum ByteTag {
+    /// Code of a compartment: it may execute the byte, and nobody may load it or store to it.
+    Code(CompId),
+    /// Data of a compartment: it may load the byte and store to it, and nobody may execute it.
+    Data(CompId),
+    /// Nobody's.
+    Unowned,
+}
+
+/// Addresses whose bytes get another tag, where they have an owner.
+#[derive(Clone, Copy, Debug, PartialEq, Eq)]
+pub struct TagRange {
+    pub start: u32,
+    pub bytes: u32,
+    pub tag: ByteTag,
+}
