@@ -139,7 +139,7 @@ fn longest_list(rt: HostRuntime) -> Result<(), Fail> {
 }
 
 #[test]
-fn usage_fits_a_screen(rt: HostRuntime) {
+fn usage_fits_a_page(rt: HostRuntime) {
     let mut lines = 0_u32;
     let mut width = 0_u32;
     for byte in usage() {
@@ -151,6 +151,6 @@ fn usage_fits_a_screen(rt: HostRuntime) {
         }
         assert!(rt; width <= 80);
     }
-    assert!(rt; lines == 24 && width == 0);
+    assert!(rt; lines <= 30 && width == 0);
     assert!(rt; usage().starts_with(b"secomp: usage\n"));
 }

@@ -1,12 +1,13 @@
+use crate::object_links::objects_of;
 use crate::object_sections::{STORE, object_bytes};
 use sc_base::Text;
-use sc_object::{ObjectsFault, read_objects};
+use sc_object::ObjectsFault;
 use std::alloc::Global;
 use std::test::Fail;
 
 // The index and the number of the cause, `None` where there is none.
 fn cause(alloc: Global, bytes: &[u8]) -> Option<(u32, u8)> {
-    match read_objects(alloc, bytes) {
+    match objects_of(alloc, bytes) {
         Err(ObjectsFault::Bad { index, cause }) => Some((index, cause.number())),
         _ => None,
     }

@@ -3,7 +3,7 @@ use sc_base::Text;
 use sc_event::Event;
 use sc_image::write_image;
 use sc_machine::Machine;
-use sc_object::{JoinFault, link_objects, read_objects};
+use sc_object::{JoinFault, Objects, ObjectsFault, link_objects, read_objects};
 use sc_store::FlatStore;
 use std::alloc::Global;
 use std::test::Fail;
@@ -16,12 +16,20 @@ fn joined(alloc: Global, first: &Text, second: &Text) -> Result<Text, Fail> {
     Ok(bytes)
 }
 
+/// The objects whose bytes stand one after the other, of no more bytes than are read.
+pub fn objects_of(alloc: Global, bytes: &[u8]) -> Result<Objects, ObjectsFault> {
+    if bytes.len() >= 4_294_967_296 {
+        return Err(ObjectsFault::OutOfMemory);
+    }
+    read_objects(alloc, bytes)
+}
+
 #[test]
 fn links_to_the_image(rt: HostRuntime) -> Result<(), Fail> {
     let main = object_bytes(rt.alloc(), STORE, 0)?;
     let net = object_bytes(rt.alloc(), STORE, 1)?;
     let bytes = joined(rt.alloc(), &net, &main)?;
-    let objects = read_objects(rt.alloc(), bytes.as_bytes())?;
+    let objects = objects_of(rt.alloc(), bytes.as_bytes())?;
     let image = link_objects(rt.alloc(), &objects)?;
     let text = write_image(rt.alloc(), &image)?;
     let compiled = image_bytes(rt.alloc(), STORE)?;
@@ -45,7 +53,7 @@ fn runs_with_a_mended_section(rt: HostRuntime) -> Result<(), Fail> {
     let main = object_bytes(rt.alloc(), STORE, 0)?;
     let net = object_bytes(rt.alloc(), MENDED, 1)?;
     let bytes = joined(rt.alloc(), &main, &net)?;
-    let objects = read_objects(rt.alloc(), bytes.as_bytes())?;
+    let objects = objects_of(rt.alloc(), bytes.as_bytes())?;
     let image = link_objects(rt.alloc(), &objects)?;
     let mut machine = Machine::<FlatStore>::load(rt.alloc(), image, &[], 16)?;
     let _stop = machine.run(1000);
@@ -57,10 +65,31 @@ fn runs_with_a_mended_section(rt: HostRuntime) -> Result<(), Fail> {
 
 // The fault of linking, where there is one.
 fn fault(alloc: Global, bytes: &Text) -> Result<Option<JoinFault>, Fail> {
-    let objects = read_objects(alloc, bytes.as_bytes())?;
+    let objects = objects_of(alloc, bytes.as_bytes())?;
     match link_objects(alloc, &objects) {
         Ok(_) => Ok(None),
         Err(fault) => Ok(Some(fault)),
+    }
+}
+
+fn is_missing(fault: Option<JoinFault>) -> bool {
+    match fault {
+        Some(JoinFault::Missing { .. }) => true,
+        _ => false,
+    }
+}
+
+fn is_twice(fault: Option<JoinFault>, index: u32) -> bool {
+    match fault {
+        Some(JoinFault::Twice { second, .. }) => second == index,
+        _ => false,
+    }
+}
+
+fn differs(fault: Option<JoinFault>, index: u32) -> bool {
+    match fault {
+        Some(JoinFault::Differ { second }) => second == index,
+        _ => false,
     }
 }
 
@@ -70,16 +99,12 @@ fn refuses_what_does_not_fit(rt: HostRuntime) -> Result<(), Fail> {
     let net = object_bytes(rt.alloc(), STORE, 1)?;
     let web = object_bytes(rt.alloc(), RENAMED, 1)?;
     let missing = fault(rt.alloc(), &main)?;
-    assert!(rt; matches!(missing, Some(JoinFault::Missing { comp }) if comp.number() == 1));
+    assert!(rt; is_missing(missing));
     let twice = joined(rt.alloc(), &net, &net)?;
     let twice = fault(rt.alloc(), &twice)?;
-    assert!(rt; matches!(twice, Some(JoinFault::Twice { comp, second: 1 }) if comp.number() == 1));
+    assert!(rt; is_twice(twice, 1));
     let differ = joined(rt.alloc(), &main, &web)?;
-    assert!(rt;
-        matches!(
-            fault(rt.alloc(), &differ)?,
-            Some(JoinFault::Differ { second: 1 })
-        )
-    );
+    let differ = fault(rt.alloc(), &differ)?;
+    assert!(rt; differs(differ, 1));
     Ok(())
 }

@@ -1153,7 +1153,7 @@ call Main Queue clear
 ret Queue Main
 in Main 3
 call Main Queue clear
-stop trap badfree 0x01100170
+stop trap badfree 0x0110016c
 chain 0
 ",
     },
