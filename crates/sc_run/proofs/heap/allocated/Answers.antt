@@ -1,4 +1,4 @@
-use Rattle.sc_run.proofs.Common.{here_of, kept_by, memory_of, refl, sym, ◌∙◌}
+use Rattle.sc_run.proofs.Common.{here_of, kept_by, memory_of, sym, ◌∙◌}
 use Rattle.sc_blocks.specs.Rows.{free_place}
 use Rattle.sc_run.proofs.Coming.{allocated_as}
 use Rattle.sc_run.proofs.Numbers.{numbers_asked}
@@ -10,7 +10,7 @@ invariant_of-machine c =
     record {
       numbers = numbers_asked c.allocate.result comp c.args.words
           (free_place (memory_of c.args.machine.now.blocks comp) c.args.words) c.allocate.ensures.made
-          c.allocate.ensures.err (c.if-not-has_number.ensures refl) c.args.machine.now.numbers;
+          c.allocate.ensures.err (c.requires comp) c.args.machine.now.numbers;
     }
 
 pub returns-in-Some : goal.returns-in-Some
