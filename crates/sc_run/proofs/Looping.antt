@@ -161,10 +161,10 @@ module _ {program : ProgramTree} {before : Seen} {work : List Work} {f : Frame} 
       {step : Step} {later : List Work} {g : Frame} → Comes before middle (Ok v) p →
       Steps program cost middle work f (λ n s. go n v s) step after later g →
       Steps program cost before work f (λ n s. and_then (p s) (go n)) step after later g
-  steps_on go {step} c h =
+  steps_on go c h =
       record {
         stands = λ whole standing. h.stands whole (goes_on program whole work f go c standing);
-        falls = λ light waiting. eased step
+        falls = λ light waiting. eased
             (turns_taken work c.fewer (λ comp. omega (arith, c.lengths comp))) (h.falls light waiting);
       }
 

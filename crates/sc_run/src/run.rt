@@ -71,7 +71,7 @@ fn run_on<'a>(
     events: u32,
 ) -> Result<RunEnd, OutOfMemory>
     requires alone { run.old.work.items ≡ [] }
-    requires room { HasRoom (now_weight first.entry) (kept_by run.old.machine) [] }
+    requires room { HasRoom (now_weight first) (kept_by run.old.machine) [] }
     ensures { IfOk result (λ end. EndsAs program.now first.entry
         (kept_by run.old.machine) run.old.frame events run.new.machine.trace end) }
 {
