@@ -395,13 +395,15 @@ pub choose_goes : (program : ProgramTree) (f : Frame) (first second : Bor (List 
     (λ n s. and_then (p s) (λ v s. choose v (block_acts program n f first.now tt s)
     (block_acts program n f second.now tt s)))
     (Go (if b then Run' first else Run' second)) before work f
-choose_goes program f first second {before} {work} {v} {b} c is = steps_on (λ n v s. choose v (block_acts program n f first.now tt s)
+choose_goes program f first second {before} {work} {v} {b} c is = steps_on (λ n v s. choose v (block_acts program n f
+    first.now tt s)
     (block_acts program n f second.now tt s)) c (chosen_so b is) where
       chosen_so : (b : Bool) → is_true v ≡ b → Steps program
           (3 + 8 * (block_nodes first.now + block_nodes second.now)) before work f
           (λ n s. choose v (block_acts program n f first.now tt s) (block_acts program n f second.now tt s))
           (Go (if b then Run' first else Run' second)) before work f
-      chosen_so true is = steps_later (omega arith) (λ n s. ap (λ b. if b then block_acts program n f first.now tt s else
+      chosen_so true is = steps_later (omega arith) (λ n s. ap (λ b. if b then block_acts program n f first.now tt s
+          else
           block_acts program n f second.now tt s) is)
       chosen_so false is = steps_later (omega arith) (λ n s. ap (λ b. if b then block_acts program n f first.now tt s
           else block_acts program n f second.now tt s) is)

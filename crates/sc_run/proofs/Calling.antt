@@ -28,7 +28,8 @@ pub unstored : {program : ProgramTree} {cost : ℕ} {before after : Seen} {work 
     Steps program cost before work f (λ n s. result_goes program f to result s) (Stop end) after work f
 unstored {program} {cost} {before} {after} {work} {f} {result} place line {end} is has c =
     subst (λ x. Steps program cost before work f (λ n s. result_goes program f x result s) (Stop end) after work f)
-    (sym is) (subst (λ x. Steps program cost before work f (λ n s. result_goes program f (Place place line) x s) (Stop end) after work
+    (sym is) (subst (λ x. Steps program cost before work f (λ n s. result_goes program f (Place place line) x s) (Stop
+    end) after work
     f) (sym has) (step_ends c))
 
 -- a result that is stored
@@ -367,14 +368,16 @@ module _ (program : ProgramTree) (f : Frame) (exit : Exit) where
         ClosedBy program f exit (Err end) →
         Steps program cost before (work ++ Caller caller to crossing ∷ []) f (λ n s. leaving s) (Stop end) before work f
     return_stops {work} caller to crossing {end} is =
-        record { stands = λ whole h. call_ends whole before work caller to _ end is h; falls = λ light waiting. is_over }
+        record
+        { stands = λ whole h. call_ends whole before work caller to _ end is h; falls = λ light waiting. is_over }
 
     pub return_steps : {work : List Work} {caller : Frame} (to : To) (crossing : Option ℕ) (v : Option Value)
         {back : Option Value} {ended emitted after : Seen} {step : Step} → ClosedBy program f exit (Ok v) →
         ended ≡ left_by f before → back ≡ back_value program f crossing v →
         emitted ≡ emitted_return program caller f crossing v ended →
         Steps program leaf_weight emitted work caller (λ n s. result_goes program caller to back s) step after work
-        caller → Steps program 1 before (work ++ Caller caller to crossing ∷ []) f (λ n s. leaving s) step after work caller
+        caller → Steps program 1 before (work ++ Caller caller to crossing ∷ []) f (λ n s. leaving s) step after work
+        caller
     return_steps {work} {caller} to crossing v {back} {ended} {emitted} {step} is ends gives emits_trace h =
         record {
           falls = λ light waiting. eased (taken_up work (Caller caller to crossing) refl before (omega arith))

@@ -143,7 +143,11 @@ module _ (here : Here) (q v : Value) (line : ℕ) (seen : Seen) (after : Blocks)
         comes = λ s is_seen. changed_at here line seen after s _ is_seen
             (sym (store_same _ q v) ∙ ap (λ bs. store bs q v) (blocks_seen s _ is_seen) ∙ is);
         fewer = omega arith;
-        lengths = blocks_changed here.comp after seen.memory 0 (omega (arith, length_store (seen.memory here.comp) q v is));
+        lengths = blocks_changed here.comp after seen.memory 0 (omega (
+          arith,
+          length_store (seen.memory here.comp) q v
+              is,
+        ));
       }
 
 module _ (here : Here) (v : Value) (line : ℕ) (seen : Seen) (after : Blocks) where
@@ -155,7 +159,11 @@ module _ (here : Here) (v : Value) (line : ℕ) (seen : Seen) (after : Blocks) w
         comes = λ s is_seen. changed_at here line seen after s _ is_seen
             (sym (free_same _ v) ∙ ap (λ bs. free_cell bs (cell_of v)) (blocks_seen s _ is_seen) ∙ is);
         fewer = omega arith;
-        lengths = blocks_changed here.comp after seen.memory 0 (omega (arith, length_free (seen.memory here.comp) v is));
+        lengths = blocks_changed here.comp after seen.memory 0 (omega (
+          arith,
+          length_free (seen.memory here.comp) v
+              is,
+        ));
       }
 
 module _ (here : Here) (line : ℕ) (seen : Seen) (cause : Cause) where
@@ -292,7 +300,8 @@ module _ (here : Here) (words : ℕ) (seen : Seen) where
       ap (λ bs. free_place bs words) (blocks_seen s here.comp is_seen)
 
   allocated_comes : (place : Option ℕ) → free_place (seen.memory here.comp) words ≡ place →
-      ComesMaking 1 seen (with_memory seen (more_blocks place)) (Ok (start_of (new_number place))) (allocated here words)
+      ComesMaking 1 seen (with_memory seen (more_blocks place)) (Ok (start_of (new_number place))) (allocated here
+      words)
   allocated_comes place is =
       record {
         comes = λ s is_seen. subst (λ p. CameTo (Ok (start_of (new_number place)))

@@ -61,13 +61,15 @@ module _ (program : ProgramTree) (f : Frame) (to : To) where
   refused target args same is = rw same (steps_as (λ n s. ap (λ b. tried b target args n s) is)
       (step_stops (λ n. rg) halts))
 
-  allowed : {cost : ℕ} {before after : Seen} {work later : List Work} (target : CallTarget) (args : List Value) {step : Step}
+  allowed : {cost : ℕ} {before after : Seen} {work later : List Work} (target : CallTarget) (args : List Value)
+      {step : Step}
       {g : Frame} → may_call (denotations program) f.scope.comp.now target args ≡ true →
       Steps program cost before work f (tried true target args) step after later g →
       Steps program cost before work f (calling target args) step after later g
   allowed target args is h = steps_as (λ n s. ap (λ b. tried b target args n s) is) h
 
-  pub own_missing : {cost : ℕ} {before : Seen} {work : List Work} (number : ℕ) (args : List Value) {end : RunEnd} → end ≡ refusal →
+  pub own_missing : {cost : ℕ} {before : Seen} {work : List Work} (number : ℕ) (args : List Value) {end : RunEnd} → end
+      ≡ refusal →
       function (denotations program) f.scope.comp.now number ≡ None →
       Steps program cost before work f (calling (Own number) args) (Stop end) before work f
   own_missing number args same is = refused (Own number) args same (ap is_some is)
@@ -85,7 +87,8 @@ module _ (program : ProgramTree) (f : Frame) (to : To) where
   is_there callee here place there = (λ i. is_some
       (function (denotations program) (sym here i) (sym place i))) ∙ ap is_some there
 
-  pub own_enters : {cost : ℕ} {before after : Seen} {work later : List Work} (callee : Callee) (number : ℕ) (args : List Value)
+  pub own_enters : {cost : ℕ} {before after : Seen} {work later : List Work} (callee : Callee) (number : ℕ) (args :
+      List Value)
       {step : Step} {g : Frame} → FoundAt program f.scope.comp.now number (Some callee) →
       Steps program cost before work f (entering callee args None) step after later g →
       Steps program cost before work f (calling (Own number) args) step after later g
@@ -124,7 +127,8 @@ module _ (program : ProgramTree) (f : Frame) (to : To) where
         Steps program cost before work f (calling (Cross comp index) args) (Stop end) before work f
     cross_missing same none = refused (Cross comp index) args same (last_fails _ taken words (no_lead _ refl none))
 
-    pub cross_enters : {cost : ℕ} {before after : Seen} {work later : List Work} (callee : Callee) {step : Step} {g : Frame} →
+    pub cross_enters : {cost : ℕ} {before after : Seen} {work later : List Work} (callee : Callee) {step : Step}
+        {g : Frame} →
         MayCross true → EntryAt program comp (Export index) (Some callee) →
         Steps program cost before work f (entering callee args (Some index)) step after later g →
         Steps program cost before work f (calling (Cross comp index) args) step after later g
@@ -155,7 +159,12 @@ module _ (program : ProgramTree) (f : Frame) (to : To) where
       {p = λ s. Reached (Some (Word _)) (read_input f.scope.comp.now s)} (λ n. rg) (record {
         comes = λ s is_seen. (ap (λ w. Some (Word w)) (ap (λ x. next_input x.inputs) is_seen ∙ sym is), seen s is_seen);
         fewer = omega (arith, ap (λ x. x.turns) emits_trace, ap (λ x. x.turns) rest);
-        lengths = λ comp. omega (arith, ap (λ x. length (x.memory comp)) emits_trace, ap (λ x. length (x.memory comp)) rest);
+        lengths = λ comp. omega (
+          arith,
+          ap (λ x. length (x.memory comp)) emits_trace,
+          ap (λ x. length (x.memory comp))
+              rest,
+        );
       }) h) where
         seen : (s : State) → seen_of s ≡ before → seen_of (read_input f.scope.comp.now s) ≡ emitted
         seen s is_seen = ap {A = Seen} (λ x. record x {
@@ -167,7 +176,8 @@ module _ (program : ProgramTree) (f : Frame) (to : To) where
         }) ∙ ap {A = Seen} (λ x. record x { trace = x.trace ++ In f.scope.comp.now word ∷ [] }) (sym rest) ∙ sym
             emits_trace
 
-  pub output_steps : {cost : ℕ} {before emitted after : Seen} {work : List Work} (args : List Value) {word : ℕ} {step : Step} →
+  pub output_steps : {cost : ℕ} {before emitted after : Seen} {work : List Work} (args : List Value) {word : ℕ}
+      {step : Step} →
       may_call (denotations program) f.scope.comp.now Output args ≡ true → word ≡ first_word args →
       emitted ≡ record before { trace = before.trace ++ Out f.scope.comp.now word ∷ [] } →
       Steps program cost emitted work f (λ n s. rg None s) step after work f →
@@ -206,7 +216,8 @@ module _ (program : ProgramTree) (f : Frame) (to : To) where
   call_steps_by target line same is values_is c h = steps_as (by_assoc target _ line)
       (steps_on (λ n vs. calling target vs n) (rw (same, is) at c) (rw values_is at h))
 
-  pub call_blamed_by : {cost : ℕ} {before : Seen} {work : List Work} (target : CallTarget) {es given_es : List TypedExpr}
+  pub call_blamed_by : {cost : ℕ} {before : Seen} {work : List Work} (target : CallTarget)
+      {es given_es : List TypedExpr}
       (line : ℕ) {r : Result (List Value) RunEnd} {end : RunEnd} → given_es ≡ es → r ≡ Err end →
       Comes before before r (given_args target given_es line) →
       Steps program cost before work f (whole_call target es line) (Stop end) before work f

@@ -184,7 +184,8 @@ module _ (work : List Work) {later : List Work} (w : Work) (is : later ≡ work 
 -- a turn pays for a round of a loop
 pub round_falls : (l : Loop) {before after : Seen} {work later : List Work} → before.turns ≡ suc after.turns →
     ((comp : ℕ) → length (after.memory comp) ≤ length (before.memory comp)) → later ≡ work ++ Body' l ∷ [] →
-    loop_weight l ≤ most_weight → AreLight work → Falls (loop_weight l) before work (block_weight l.body.now) after later
+    loop_weight l ≤ most_weight → AreLight work → Falls (loop_weight l) before work (block_weight l.body.now) after
+    later
 round_falls l {before} {after} {work} {later} taken blocks is light waiting =
     record {
       less = omega (arith, taken, all_weights work (Body' l) is, light);

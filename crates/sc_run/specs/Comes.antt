@@ -12,7 +12,8 @@ CameTo (Err end) seen (Stopped e s) = (e ≡ end) × (seen_of s ≡ seen)
 
 -- from every state of which the first is seen, the piece comes to this; it takes turns, and gives none; and makes at
 -- most so many blocks
-pub record ComesMaking (made : ℕ) {V : Type 0} (before after : Seen) (result : Result V RunEnd) (piece : State → Piece V)
+pub record ComesMaking (made : ℕ) {V : Type 0} (before after : Seen) (result : Result V RunEnd) (piece : State → Piece
+    V)
     : Type 0 where
   pub comes : (s : State) → seen_of s ≡ before → CameTo result after (piece s)
   pub fewer : after.turns ≤ before.turns

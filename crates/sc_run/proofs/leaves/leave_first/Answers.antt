@@ -3,7 +3,8 @@ use Rattle.sc_run.proofs.Common.{IfOk-weaker, arith, refl}
 use Rattle.sc_run.proofs.leaves.leave_first.Goals as goal
 
 pub returns-in-Next : goal.returns-in-Next
-returns-in-Next c = rw c.in-Next.is (IfOk-weaker c.round.result _ _ (λ step h. steps_weaken (omega arith) h) c.round.ensures)
+returns-in-Next c = rw c.in-Next.is (IfOk-weaker c.round.result _ _ (λ step h. steps_weaken (omega arith) h)
+    c.round.ensures)
 
 pub returns-in-Break : goal.returns-in-Break
 returns-in-Break c = rw c.in-Break.is (steps_later (omega arith) (λ n s. refl))

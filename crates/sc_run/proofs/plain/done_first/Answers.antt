@@ -28,4 +28,5 @@ returns-in-None-clause-less c = omega arith
 
 pub returns-then-not-is_empty-clause-less : goal.returns-then-not-is_empty-clause-less
 returns-then-not-is_empty-clause-less c =
-    part_less c.args.stmts.now c.loop-at.at c.in-Some.part.now c.loop-at-test.true c.index-stmts-at.is c.in-Some.ensures.less
+    part_less c.args.stmts.now c.loop-at.at c.in-Some.part.now c.loop-at-test.true c.index-stmts-at.is
+    c.in-Some.ensures.less

@@ -8,4 +8,5 @@ returns-in_ok-push-in-Some c = IfOk-weaker c.simple.result _ _ (λ step h. part_
     c.args.whole.now (λ n ws p. refl) refl c.in-Some.is c.in_ok-push-in-Some.ensures.items h) c.simple.ensures
 
 pub returns-in-None : goal.returns-in-None
-returns-in-None c = rw c.in-None.is (IfOk-weaker c.round.result _ _ (λ step h. steps_weaken (omega arith) h) c.round.ensures)
+returns-in-None c = rw c.in-None.is (IfOk-weaker c.round.result _ _ (λ step h. steps_weaken (omega arith) h)
+    c.round.ensures)

@@ -31,7 +31,8 @@ returns-in-Assign c = stmt_as c.args.stmt.now (layer.Assign c.get.result.now c.i
 pub returns-in-AssignCall : goal.returns-in-AssignCall
 returns-in-AssignCall c = IfOk-weaker c.call.result _ _ (λ step h. stmt_as c.args.stmt.now
     (layer.AssignCall c.get-in-AssignCall.result.now c.in-AssignCall.made)
-    (rw c.get-in-AssignCall.ensures.value (c.in-AssignCall.is ∙ sym (rolls-AssignCall _ _))) (omega arith) h) c.call.ensures
+    (rw c.get-in-AssignCall.ensures.value (c.in-AssignCall.is ∙ sym (rolls-AssignCall _ _))) (omega arith) h)
+    c.call.ensures
 
 pub returns-in-Call : goal.returns-in-Call
 returns-in-Call c = IfOk-weaker c.call-in-Call.result _ _ (λ step h. stmt_as c.args.stmt.now (layer.Call c.in-Call.made)
@@ -43,7 +44,8 @@ returns-in-Malloc c = IfOk-weaker c.malloc.result _ _ (λ step h. stmt_as c.args
     (rw c.get-in-Malloc.ensures.value (c.in-Malloc.is ∙ sym (rolls-Malloc _ _ _))) (omega arith) h) c.malloc.ensures
 
 pub returns-in-Free : goal.returns-in-Free
-returns-in-Free c = stmt_as c.args.stmt.now (layer.Free c.in-Free.pointer) (c.in-Free.is ∙ sym (rolls-Free _)) (omega arith)
+returns-in-Free c = stmt_as c.args.stmt.now (layer.Free c.in-Free.pointer) (c.in-Free.is ∙ sym (rolls-Free _)) (omega
+    arith)
     c.free.ensures
 
 pub returns-in-ReturnCall : goal.returns-in-ReturnCall
@@ -58,7 +60,8 @@ returns-in-ReturnValue c = stmt_as c.args.stmt.now (layer.ReturnValue c.in-Retur
 pub returns-in-If : goal.returns-in-If
 returns-in-If c = stmt_as c.args.stmt.now
     (layer.If c.in-If.cond c.as_slice.result.now c.as_slice-in-If.result.now)
-    (rw (c.as_slice.ensures, c.as_slice-in-If.ensures) (c.in-If.is ∙ sym (rolls-If _ _ _))) (omega arith) c.branch-program.ensures
+    (rw (c.as_slice.ensures, c.as_slice-in-If.ensures) (c.in-If.is ∙ sym (rolls-If _ _ _))) (omega arith)
+    c.branch-program.ensures
 
 pub returns-in-While : goal.returns-in-While
 returns-in-While c = IfOk-weaker c.while_loop.result _ _ (λ step h. stmt_as c.args.stmt.now
