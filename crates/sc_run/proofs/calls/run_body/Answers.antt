@@ -24,7 +24,7 @@ returns-in_ok-push-in-Some c = IfOk-weaker c.go_on.result _ _
     (steps_after c.in-Some.ensures.passes (steps_weaken
     (omega (
       arith,
-      place_light _ c.in-Some.at c.in-Some.ensures.less,
+      place_light c.as_slice-stmts.result.now c.in-Some.at c.in-Some.ensures.less,
       ap (λ xs. block_nodes xs)
           c.as_slice-stmts.ensures,
     )) (work_as c.in_ok-push-in-Some.ensures.items h)))) c.go_on.ensures

@@ -1,6 +1,7 @@
-use Rattle.sc_run.proofs.Common.{IfOk-weaker, in_loop, arith}
+use Rattle.sc_run.proofs.Common.{IfOk-weaker, arith, in_loop, subst, sym}
 use Rattle.sc_run.proofs.Ahead.{passes_follow, steps_after}
 use Rattle.sc_run.proofs.Looping.{steps_weaken}
+use Rattle.sc_run.specs.Weights.{AnotherSuffices}
 use Rattle.sc_run.proofs.leaves.next_part.Goals as goal
 
 pub returns-then-is_next_done : goal.returns-then-is_next_done
@@ -10,3 +11,6 @@ returns-then-is_next_done c = IfOk-weaker c.round.result _ _
 
 pub returns : goal.returns
 returns c = rw (← c.if-is_next_done.ensures) c.begin_next.ensures
+
+pub begin_next-requires : goal.begin_next-requires
+begin_next-requires c = subst AnotherSuffices (sym c.if-is_next_done.ensures) c.requires

@@ -47,3 +47,6 @@ returns-then-not-is_next_done-clause-taken c = omega (
 
 pub returns-then-not-is_next_done-clause-less : goal.returns-then-not-is_next_done-clause-less
 returns-then-not-is_next_done-clause-less c = omega arith
+
+pub returns-in-Some-clause-less : goal.returns-in-Some-clause-less
+returns-in-Some-clause-less c = c.in-Some.ensures.less

@@ -9,7 +9,7 @@ returns-clause-passes c = part_left c.args.program.now c.args.frame.now c.args.s
     c.done_plainly-count.result c.if-is_done.ensures c.in_ok-part.ensures.passes c.done_plainly-count.ensures.passes
 
 pub returns-then-is_done-clause-less : goal.returns-then-is_done-clause-less
-returns-then-is_done-clause-less c = some_nodes c.args.stmt.now
+returns-then-is_done-clause-less c = omega (arith, some_nodes c.args.stmt.now)
 
 pub returns-clause-less : goal.returns-clause-less
 returns-clause-less c = omega (

@@ -10,6 +10,6 @@ pub returns-then-is_empty : goal.returns-then-is_empty
 returns-then-is_empty c = rest_only c.args.program.now c.args.run.now.frame c.args.stmts.now _ c.args.at refl
     (none_in c.args.at.part.now c.is_empty.ensures c.if-is_empty.true)
 
-pub returns-in_ok-push : goal.returns-in_ok-push
-returns-in_ok-push c = rest_waits c.args.program.now c.args.run.now.frame c.args.stmts.now _ c.args.at refl
+pub returns : goal.returns
+returns c = rest_waits c.args.program.now c.args.run.now.frame c.args.stmts.now _ c.args.at refl
     c.in_ok-push.ensures.items
