@@ -104,10 +104,10 @@ fn is_data_byte(image: &Image, at: u32) -> bool
 }
 
 /// Whether a tag is the one that is wanted.
-fn is_tag(wanted: ByteTag, tag: ByteTag) -> bool
-    ensures { result ≡ is_tag wanted tag }
+fn is_tag(wanted: &ByteTag, tag: ByteTag) -> bool
+    ensures { result ≡ is_tag wanted.now tag }
 {
-    match (wanted, tag) {
+    match (*wanted, tag) {
         (ByteTag::Code(c), ByteTag::Code(comp)) => comp == c,
         (ByteTag::Data(c), ByteTag::Data(comp)) => comp == c,
         (ByteTag::Unowned, ByteTag::Unowned) => true,
@@ -127,7 +127,7 @@ pub(crate) fn all_tagged(
     ensures { result ≡ all_tagged (tag_at image.now ranges.now) wanted address size }
 {
     for place in 0..size {
-        if !is_tag(wanted, tag_at(image, ranges, address + place)) {
+        if !is_tag(&wanted, tag_at(image, ranges, address + place)) {
             return false;
         }
     }
