@@ -27,12 +27,12 @@ tag_outcome (Err reason) tagged = Traps reason
 
 -- a store of the bytes of code, and one of those of data
 pub record Stores (S : Type 0) : Type 0 where
-  pub code : S
-  pub data : S
+  pub code_bytes : S
+  pub data_bytes : S
 
 -- all bytes, by the bytes of a store
 abbrev pub bytes_of : {S : Type 0} → (S → ByteMemory) → Stores S → ByteMemory
-bytes_of bytes stores address = option_or (bytes stores.code address) (bytes stores.data address)
+bytes_of bytes stores address = option_or (bytes stores.code_bytes address) (bytes stores.data_bytes address)
 
 -- there is a byte where there was one at the start, and nowhere else
 abbrev pub IsOwned : ImageParts → ByteMemory → Type 0

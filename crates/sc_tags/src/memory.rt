@@ -19,8 +19,8 @@ use std::marker::Model;
 /// stores, and by `bytes_of` the map of all bytes.
 #[derive(Drop)]
 pub(crate) struct Memory<S: Store> {
-    code: S,
-    data: S,
+    code_bytes: S,
+    data_bytes: S,
 }
 
 impl<S: Store> Model for Memory<S> {
@@ -28,9 +28,9 @@ impl<S: Store> Model for Memory<S> {
 
     ghost Value = { Stores S };
 
-    ghost view = { λ memory. record { code = memory.code; data = memory.data } };
+    ghost view = { λ memory. record { code_bytes = memory.code_bytes; data_bytes = memory.data_bytes } };
 
-    ghost invariant = { λ memory. AreWholeWords (S.bytes memory.code) };
+    ghost invariant = { λ memory. AreWholeWords (S.bytes memory.code_bytes) };
 }
 
 impl<S: Store> Memory<S> {
@@ -39,8 +39,8 @@ impl<S: Store> Memory<S> {
         ensures { IfOk result (λ memory. bytes_of S.bytes memory ≡ first_bytes image.now) }
     {
         Ok(Memory {
-            code: start_code(alloc, image)?,
-            data: start_memory(alloc, image)?,
+            code_bytes: start_code(alloc, image)?,
+            data_bytes: start_memory(alloc, image)?,
         })
     }
 
@@ -48,8 +48,8 @@ impl<S: Store> Memory<S> {
     pub fn focus(&mut self, comp: CompId)
         ensures { bytes_of S.bytes self.new ≡ bytes_of S.bytes self.old }
     {
-        self.code.focus(code_start(comp));
-        self.data.focus(data_start(comp));
+        self.code_bytes.focus(code_start(comp));
+        self.data_bytes.focus(data_start(comp));
     }
 
     /// The word that is loaded from an address.
@@ -58,10 +58,10 @@ impl<S: Store> Memory<S> {
         requires there { HasBytes (bytes_of S.bytes self.now) address (load_size op) }
         ensures { result ≡ extended op (load_of (bytes_of S.bytes self.now) address (load_size op)) }
     {
-        if self.code.has(address) {
-            return loaded(&self.code, op, address);
+        if self.code_bytes.has(address) {
+            return loaded(&self.code_bytes, op, address);
         }
-        loaded(&self.data, op, address)
+        loaded(&self.data_bytes, op, address)
     }
 
     /// Puts the lowest bytes of a word at an address.
@@ -70,10 +70,10 @@ impl<S: Store> Memory<S> {
         requires there { HasBytes (bytes_of S.bytes self.old) address (store_size op) }
         ensures { bytes_of S.bytes self.new ≡ with_bytes (bytes_of S.bytes self.old) address (store_size op) word }
     {
-        if self.code.has(address) {
-            return put(&mut self.code, op, address, word);
+        if self.code_bytes.has(address) {
+            return put(&mut self.code_bytes, op, address, word);
         }
-        put(&mut self.data, op, address, word);
+        put(&mut self.data_bytes, op, address, word);
     }
 }
 
