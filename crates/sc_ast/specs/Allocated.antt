@@ -5,7 +5,7 @@ use Rattle.sc_ast.specs.declared.expr.ExprTree.{ExprTree}
 use Rattle.sc_ast.specs.declared.expr.ExprTree.TheVariants as expr
 use Rattle.sc_ast.specs.declared.types.TypeName.{TypeName}
 
--- the size of a type, or so many times that size
+-- the size of a type, or a multiple of it
 abbrev pub malloc_argument : Option ExprTree → TypeName → ExprTree
 malloc_argument None of = expr.SizeOf of
 malloc_argument (Some count) of = expr.Binary binary.Mul count (expr.SizeOf of)

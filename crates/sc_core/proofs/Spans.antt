@@ -62,7 +62,7 @@ spans_changed spans (z ∷ blocks) zero x y at s =
     ap (λ l. fold with_block l blocks) (same ∙ ap (with_block spans) (sym (same_Some z x at)))
 spans_changed spans (z ∷ blocks) (suc b) x y at s = spans_changed (with_block spans z) blocks b x y at s
 
--- of so many blocks from a number on those that live were not allocated
+-- of `count` blocks from a number on, those that live were not allocated
 abbrev pub AreVariables : (first count : ℕ) → Blocks → Type 0
 AreVariables first count blocks =
     (b : ℕ) (x : Block) → slice_get blocks b ≡ Some x → first ≤ b → b < first + count → x.live ≡ true → x.place ≡ None

@@ -77,7 +77,7 @@ at_place ty place w = replaced place (loaded ty w)
 abbrev pub no_place : Lows → Forms
 no_place value w = value
 
--- the size of a type of so many cells (C11 6.5.3.4)
+-- the size of a type with that number of cells (C11 6.5.3.4)
 abbrev pub size_of : ℕ → Constant
 size_of cells = constant.Word (size_in_bytes cells)
 

@@ -8,7 +8,7 @@ use Rattle.sc_fields.specs.declared.import.ImportPart.{ImportPart}
 use Rattle.sc_object.specs.declared.parts.Face.{Face}
 use Rattle.sc_object.specs.declared.parts.ObjectParts.{ObjectParts}
 
--- an offset of `main`: in the object of the main compartment that of a word of its code, of which there are so many
+-- an offset of `main`: in the object of the main compartment that of a word of its code, which has `words` words
 abbrev pub is_start : (is_main : Bool) → (words at : ℕ) → Bool
 is_start is_main words at = if is_main then at % 4 == 0 && nat_lt (at / 4) words else at == 0
 

@@ -106,7 +106,7 @@ fn check_once(objects: &[ObjectParts]) -> Result<(), JoinFault>
     Ok(())
 }
 
-// Whether each of so many compartments has an object.
+// Whether each of `comps` compartments has an object.
 fn check_all(objects: &[ObjectParts], comps: usize) -> Result<(), JoinFault>
     requires { comps ≤ most_compartments }
     ensures none { IfOk result (λ _. missing_from objects.now 0 comps ≡ None) }

@@ -129,7 +129,7 @@ fn count_at(bytes: &mut &[u8]) -> Result<u8, BadField>
     Ok(count)
 }
 
-// The offset of `main`, in the object of the main compartment or not, with code of so many words.
+// The offset of `main`, in the object of the main compartment or not, with code of `words` words.
 fn start_at(is_main: bool, words: usize, bytes: &mut &[u8]) -> Result<u32, BadField>
     ensures { Gives (λ x. (x, bytes.new.now)) result (start_at is_main words bytes.old.now) }
 {

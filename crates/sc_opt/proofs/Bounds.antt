@@ -37,9 +37,10 @@ module _ (temps t : ℕ) (out : temps ≤ t) where
   not_one (u ∷ us) h = ap (λ b. b || is_one t us) (differs u (and_first (nat_lt u temps) _ h))
       ∙ not_one us (and_rest (nat_lt u temps) _ h)
 
-  pub front : (dest : Option ℕ) (ts : List ℕ) → own (one_or_none dest ++ ts) ≡ true → own (one_or_none dest) ≡ true
-  front None ts h = refl
-  front (Some d) ts h = and_from (nat_lt d temps) true (and_first (nat_lt d temps) _ h) refl
+  pub result_owned : (dest : Option ℕ) (ts : List ℕ) → own (one_or_none dest ++ ts) ≡ true →
+      own (one_or_none dest) ≡ true
+  result_owned None ts h = refl
+  result_owned (Some d) ts h = and_from (nat_lt d temps) true (and_first (nat_lt d temps) _ h) refl
 
   pub back : (dest : Option ℕ) (ts : List ℕ) → own (one_or_none dest ++ ts) ≡ true → own ts ≡ true
   back None ts h = h
@@ -76,7 +77,7 @@ module _ (temps t : ℕ) (out : temps ≤ t) where
       let all = and_first (own (one_or_none dest ++ reads)) true h in
       record {
         silent = and_from (not (is_one t reads)) true (ap not (not_one reads (back dest reads all))) refl;
-        never = ap (λ b. if b then g else Nowhere) (not_one (one_or_none dest) (front dest reads all));
+        never = ap (λ b. if b then g else Nowhere) (not_one (one_or_none dest) (result_owned dest reads all));
       }
 
   without_or : (d : ℕ) (g : Assigned) → (if d == t || false then g else Nowhere) ≡ Nowhere →

@@ -235,11 +235,11 @@ module _ (table : ℕ → Assigned) (constants : ℕ → Option Constant) (sourc
         takes = and_first (give_test x) _ rules.takes;
         fresh = λ t. and_first ((reading t x).fresh (ahead_at (record lives { following = row_reads rest lives }) t)) _
             (rules.fresh t);
-      }) p (λ t once. front t (new t once)))) where
-        front : (t : ℕ) → ((row_assigned (x ∷ rest) t ≡ Nowhere) ⊎ (g t ≡ None)) → ((assigned t x ≡ Nowhere) ⊎
+      }) p (λ t once. in_rest t (new t once)))) where
+        in_rest : (t : ℕ) → ((row_assigned (x ∷ rest) t ≡ Nowhere) ⊎ (g t ≡ None)) → ((assigned t x ≡ Nowhere) ⊎
             (g t ≡ None))
-        front t (inl n) = inl (never_both (assigned t x) (row_assigned rest t) n).0
-        front t (inr e) = inr e
+        in_rest t (inl n) = inl (never_both (assigned t x) (row_assigned rest t) n).0
+        in_rest t (inr e) = inr e
 
         still : (g' : Temps) → AddsOnly g (λ t. assigned t x) g' → New g' (row_assigned rest)
         still g' adds t once = by (new t once) (one_part (assigned t x) (row_assigned rest t) (table t) once

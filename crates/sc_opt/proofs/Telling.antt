@@ -22,7 +22,7 @@ use Rattle.sc_opt.specs.Tables.{source_at}
 use Rattle.sc_opt.specs.Tables.{used_at, with_fact}
 use Rattle.sc_opt.specs.declared.facts.Facts.{Facts}
 use Rattle.sc_opt.specs.declared.pass.Tables.{Tables}
-use Rattle.sc_opt.proofs.Bounds.{assigned_nowhere, back, differs, front, not_one}
+use Rattle.sc_opt.proofs.Bounds.{assigned_nowhere, back, differs, result_owned, not_one}
 use Rattle.sc_opt.proofs.Inside.{sources_inside}
 use Rattle.sc_opt.proofs.AllKnown.{here}
 use Rattle.sc_opt.proofs.Copies.{at_home}
@@ -86,7 +86,7 @@ module _ (temps x : ℕ) (out : temps ≤ x) where
   not_dest : (dest : Option ℕ) (ts : List ℕ) → (own (one_or_none dest ++ ts) && true) ≡ true →
       (not (is_one x (one_or_none dest)) && true) ≡ true
   not_dest dest ts h = ap (λ b. not b && true) (not_one temps x out (one_or_none dest)
-      (front temps x out dest ts (and_first (own (one_or_none dest ++ ts)) true h)))
+      (result_owned temps x out dest ts (and_first (own (one_or_none dest ++ ts)) true h)))
 
   layer_wordy : (k : TacStmt-F TacStmt) → Inside Wordy k →
       with_parts (names_own_temps temps) (map-TacStmt _ _ owns k) ≡ true →

@@ -111,11 +111,11 @@ module _ (t : ℕ) where
       let last = row_silent c i.2 three (part_ahead ahead false) (quiet_part ahead false q refl) in
       let middle = row_silent b i.1 two (part_ahead ahead (row_reads c (part_ahead ahead false)))
       (quiet_part ahead (row_reads c (part_ahead ahead false)) q last.first_not) in
-      let front = row_silent a i.0 one
+      let first_silent = row_silent a i.0 one
       (part_ahead ahead (row_reads b (part_ahead ahead (row_reads c (part_ahead ahead false)))))
       (quiet_part ahead (row_reads b (part_ahead ahead (row_reads c (part_ahead ahead false)))) q middle.first_not) in
       record {
-        first_not = front.first_not;
+        first_not = first_silent.first_not;
         is_fresh = and_from _ _ (part_hushed a i.0 one ahead q)
             (and_from _ _ (part_hushed b i.1 two ahead q) (part_hushed c i.2 three ahead q));
       }

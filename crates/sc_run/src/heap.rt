@@ -39,7 +39,7 @@ fn has_number(machine: &Machine, comp: CompId) -> bool
     machine.blocks.made(comp) + MOST_NODES * (machine.turns as u64) < 1 << 63
 }
 
-// A block of so many words, or null where the zone has no place for them.
+// A block of `words` words, or null where the zone has no place for them.
 fn allocated(machine: &mut Machine, frame: &Frame, words: u64) -> Result<Value, OutOfMemory>
     ensures { IfOk result (λ pointer. Comes (kept_by machine.old) (kept_by machine.new) (Ok pointer)
         (allocated (here_of frame.now.scope) words)) }

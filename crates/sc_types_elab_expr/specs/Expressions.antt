@@ -76,7 +76,7 @@ literal_typed number = record {
   kind = TypedKind.Literal number.value;
 }
 
--- how many bytes what has so many cells takes (C11 6.5.3.4)
+-- the bytes of a value with that number of cells (C11 6.5.3.4)
 abbrev pub sizeof_typed : (cells : ℕ) → TypedExpr
 sizeof_typed cells = record { ty = ty.Unsigned; kind = TypedKind.SizeOf cells }
 

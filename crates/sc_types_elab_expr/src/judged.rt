@@ -192,7 +192,7 @@ pub fn is_type(there: Option<Ty>, ty: Ty) -> bool
     }
 }
 
-/// Whether what `sizeof` gives of a type of so many cells has its type (C11 6.5.3.4).
+/// Whether `sizeof` of a type with `cells` cells has its type (C11 6.5.3.4).
 pub fn sizeof_fits(cells: u32) -> bool
     ensures { result ≡ nat_le cells most_cells }
 {

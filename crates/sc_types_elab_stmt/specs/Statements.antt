@@ -115,7 +115,7 @@ module _ (visible : Visible) (callees : Callees) where
         result_goes (callees.signature call.name) (typed visible place).ty ∷ []
         )
 
-    -- so many elements of a type are allocated for a pointer to this type (C11 7.22.3.4)
+    -- a number of elements of a type is allocated for a pointer to this type (C11 7.22.3.4)
     abbrev pub malloc_holds : ExprTree → Option ExprTree → TypeName → Bool
     malloc_holds place count of =
         all_hold (

@@ -140,7 +140,7 @@ impl Place<'_> {
         Ok(built.judged.is_int())
     }
 
-    // Whether so many elements may be allocated.
+    // Whether that number of elements may be allocated.
     fn counts(&self, alloc: Global, count: &Option<ExprTree>) -> Result<bool, OutOfMemory>
         ensures { (scope : Scope) → Suits (visible self.now.section.now self.now.function.now) scope →
             IfOk result (λ holds. holds ≡ count_fits (option_map (judged scope) (option_map
@@ -152,7 +152,7 @@ impl Place<'_> {
         }
     }
 
-    // Whether so many elements of a type may be allocated for a place of type `ty`.
+    // Whether a number of elements of a type may be allocated for a place of type `ty`.
     fn allocates(
         &self,
         alloc: Global,

@@ -7,7 +7,7 @@ use Rattle.std.proofs.lemmas.Option.{same_Some}
 use Rattle.sc_zone.proofs.Cutting.{none_before, none_from}
 use Rattle.sc_zone.proofs.Laid.{laid_to}
 
--- a gap of so many words, or of none, follows a place
+-- a gap of `words` words, or of none, follows a place
 abbrev pub IsNext : (place : ℕ) → List Span → (words : ℕ) → Type 0
 IsNext place [] words = place + words ≡ zone_words
 IsNext place (span ∷ spans) words = place + words ≡ span.place

@@ -99,7 +99,7 @@ impl Zone {
         true
     }
 
-    // The first gap that has so many words.
+    // The first gap that has `words` words.
     fn first_gap(&self, words: u32) -> Option<Gap>
         requires { 0 < words }
         ensures gap { IfSome result (λ gap. IsGap 0 self.now gap.place gap.words) }

@@ -92,7 +92,7 @@ impl Memory {
         None
     }
 
-    // Where so many words of a compartment's zone are free: it goes on behind each block that is in the way.
+    // Where `words` words of a compartment's zone are free: it goes on after each block that is in the way.
     fn first_fit(&self, comp: CompId, words: u64) -> Option<ZonePlace> {
         let mut first = 0;
         for _ in 0..self.variables.len() {

@@ -244,7 +244,7 @@ impl<'a> Run<'a> {
         self.computed(frame.comp, line, count)
     }
 
-    /// Stores a pointer to new elements of so many cells: the count first, then the block, then the place, then the
+    /// Stores a pointer to new elements of `cells` cells: the count first, then the block, then the place, then the
     /// store.
     pub(crate) fn allocate(
         &mut self,

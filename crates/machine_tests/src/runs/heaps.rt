@@ -26,7 +26,7 @@ fn image(alloc: Global, version: u8, flags: u8, code: &[u32]) -> Result<Text, Ou
     Ok(bytes)
 }
 
-// Why the first bytes of `TAKES`' image, so many of 59, are no image.
+// Why a prefix of `TAKES`' image, of fewer than its 59 bytes, is no image.
 fn cause_of_cut(length: usize) -> u8 {
     match length {
         0..=3 => 1,

@@ -156,7 +156,7 @@ const STATED: [Row; 23] = [
     // Sizes of types.
     b"i = sizeof(int); u = sizeof (signed int) + -sizeof(unsigned); a[sizeof(int) - 4] = !sizeof(struct S **);",
     b"if (sizeof(unsigned int *)) { } i = sizeof(struct T) * sizeof(signed) / 2;",
-    // Blocks are allocated, their count in front of a size, and freed.
+    // Blocks are allocated, their count before a size, and freed.
     b"p = malloc(sizeof(int)); *pp = malloc(3 * sizeof(int)); p = malloc((i + 1) * sizeof(int));",
     b"s.q = malloc( ( sizeof(int))); free((0));",
     b"p = malloc((2 * sizeof(int))); p = malloc(2 * u * sizeof(int)); p = malloc(sizeof(int) * sizeof(int)); \
