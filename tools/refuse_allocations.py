@@ -2,9 +2,10 @@
 """Refuses each allocation of a run in turn, and holds the answers to what they may be.
 
 Usage, at the top of the repository: tools/refuse_allocations.py PROGRAM WORD.. < INPUT
+       tools/refuse_allocations.py --all PROGRAM
        tools/refuse_allocations.py --build PROGRAM [CRATE]
 
-The second form builds PROGRAM first: CRATE, or else secomp, with run-time checks in place of proofs, as `rt try --fail-alloc` builds it, with a
+The second form takes a run of each command in turn. The last one builds PROGRAM first: CRATE, or else secomp, with run-time checks in place of proofs, as `rt try --fail-alloc` builds it, with a
 number of the allocation to refuse that stands nowhere else in the program. The first form puts each number from 1 on in
 its place and runs the program on these words and this input. An answer must be that of the run in which nothing is
 refused, or status 9 with nothing written to the output. It ends after 64 numbers in a row that change nothing, since then
@@ -75,12 +76,35 @@ def answer(program, words, text):
     return ran.returncode, ran.stdout
 
 
+def runs(program):
+    """A run of each command: its words and its input."""
+    def read(name):
+        with open(f"examples/{name}", "rb") as it:
+            return it.read()
+    store, order = read("store.c"), read("policies/order.policy") + read("policies/order.c")
+    image = answer(program, ["compile"], store)[1]
+    objects = [answer(program, ["object", "--section", name], store)[1] for name in ("Main", "Net")]
+    return [(["check"], store), (["meaning"], store), (["meaning"], read("queue.c")), (["compile"], store), (["run"], store),
+            (["run"], read("queue.c")), (["explain"], store), (["explain", "--show", "1"], store), (["exec"], image),
+            (["object", "--section", "Net"], store), (["link"], b"".join(objects)), (["judge"], order),
+            (["make", "--size", "2", "--seed", "1"], b""), (["make", "--size", "2", "--seed", "1", "--summary"], b"")]
+
+
 def main(words):
     if words[:1] == ["--build"] and len(words) in (2, 3):
         return build(words[1], words[2] if len(words) == 3 else "secomp")
+    if words[:1] == ["--all"] and len(words) == 2:
+        for command, text in runs(words[1]):
+            print(f"{' '.join(command)}: ", end="", flush=True)
+            refuse(words[1], command, text)
+        return
     if len(words) < 2:
         raise SystemExit(__doc__)
-    program, words, text = words[0], words[1:], sys.stdin.buffer.read()
+    refuse(words[0], words[1:], sys.stdin.buffer.read())
+
+
+def refuse(program, words, text):
+    """Refuses each allocation of a run in turn."""
     with tempfile.TemporaryDirectory() as room:
         whole = answer(program, words, text)
         number, quiet, refused = 0, 0, 0

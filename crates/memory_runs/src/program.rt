@@ -20,6 +20,8 @@ pub struct Run<'a> {
     pub failing_writes: &'a [u32],
     /// How many bytes the output takes in all.
     pub room: u32,
+    /// How many bytes the error takes in all.
+    pub error_room: u32,
 }
 
 impl<'a> Run<'a> {
@@ -31,6 +33,7 @@ impl<'a> Run<'a> {
             failing_reads: &[],
             failing_writes: &[],
             room: ROOM,
+            error_room: ROOM,
         }
     }
 
@@ -42,7 +45,7 @@ impl<'a> Run<'a> {
         }
         let mut source = MemSource::new(alloc, self.input, self.failing_reads)?;
         let mut out = MemSink::new(alloc, self.room, self.failing_writes)?;
-        let mut err = MemSink::new(alloc, ROOM, &[])?;
+        let mut err = MemSink::new(alloc, self.error_room, &[])?;
         let status = secomp(alloc, &words, &mut source, &mut out, &mut err);
         Ok(Ran {
             status: status.number(),

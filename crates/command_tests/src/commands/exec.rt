@@ -3,7 +3,7 @@ use memory_runs::Run;
 use std::test::Fail;
 
 // The compartment `M` outputs 7 and ends.
-const SEVEN: [u8; 47] = [
+pub const SEVEN: [u8; 47] = [
     0x53, 0x43, 0x49, 0x4d, 1, 0, 1, 0, 0, 0, 0, 1, 1, 0x4d, 2, 0, 0, 0, 0, 20, 0, 0, 0, 0x13,
     0x05, 0x70, 0, 0x93, 0x08, 0x20, 0, 0x73, 0, 0, 0, 0x13, 0x05, 0, 0, 0x67, 0x80, 0, 0, 0, 0, 0,
     0,
@@ -92,17 +92,5 @@ fn a_byte_after_an_image_is_bad(rt: HostRuntime) -> Result<(), Fail> {
     longer.push(0)?;
     let ran = Run::new("exec", &longer).run(rt.alloc())?;
     assert!(rt; ran.wrote(6, b"", b"secomp: bad image 9\n"));
-    Ok(())
-}
-
-#[test]
-fn a_changed_byte_is_run_or_bad(rt: HostRuntime) -> Result<(), Fail> {
-    for place in 0..SEVEN.len() {
-        let mut changed = SEVEN;
-        changed[place] = 0xff;
-        let ran = Run::new("exec", &changed).run(rt.alloc())?;
-        assert!(rt; ran.status == 0 || ran.status == 6 && ran.out.is_empty());
-        assert_eq!(rt; ran.unread, 0);
-    }
     Ok(())
 }

@@ -22,7 +22,7 @@ fn text(alloc: Global, statements: &[&[u8]]) -> Result<Vec<u8>, AllocError> {
 }
 
 // The same bytes, `times` times.
-fn repeated(alloc: Global, times: usize, part: &[u8]) -> Result<Vec<u8>, AllocError> {
+pub fn repeated(alloc: Global, times: usize, part: &[u8]) -> Result<Vec<u8>, AllocError> {
     let mut all = Vec::new(alloc);
     for _ in 0..times {
         all.extend_from_slice(part)?;

@@ -1,0 +1,209 @@
+#!/usr/bin/env python3
+"""Measures what `secomp` takes on the worst inputs within its limits: native stack, memory and time.
+
+- The least stack, in KiB, with which a run gives the answer that it gives with much: on trees 250 high of each form, on
+  brackets at their limit, on calls 32 compartments deep, on 4,096 exports.
+- Seconds and bytes of memory a byte of text of `check`, for texts of 8 MiB of one form each, and of `compile` for 1 MiB.
+- Seconds and MiB of `explain` on chains of 32 links with 4,096 events and 16,777,216 steps, of `exec` and `link` on
+  images and objects of nearly 64 MiB.
+
+usage: bench/limits.py [--secomp PROGRAM] [--only stack|check|compile|others]
+"""
+import argparse
+import os
+import resource
+import sys
+
+sys.dont_write_bytecode = True
+from hostile import file_of
+from seeds import TOP
+
+MAIN = "#pragma compartment Main\n"
+PLENTY = 256 << 20
+HEIGHT = 250
+
+
+def measured(program, words, text, stack=PLENTY):
+    """The status and the output of a run with that much stack, its seconds, and the most KiB of memory."""
+    files = [file_of(text), file_of(), file_of()]
+    child = os.fork()
+    if child == 0:
+        resource.setrlimit(resource.RLIMIT_STACK, (stack, resource.RLIM_INFINITY))
+        for to, file in enumerate(files):
+            os.dup2(file, to)
+        os.execve(program, [program, *words], {})
+    _, status, used = os.wait4(child, 0)
+    outputs = [os.pread(file, os.fstat(file).st_size, 0) for file in files[1:]]
+    for file in files:
+        os.close(file)
+    return (os.waitstatus_to_exitcode(status), *outputs), used.ru_utime + used.ru_stime, used.ru_maxrss
+
+
+def main_of(body, before=""):
+    """A program of one compartment with this body of `main`."""
+    return (MAIN + before + "int main(void) {\n" + body + "  return 0;\n}\n").encode()
+
+
+def expression(shape, before="int x;\nint a[4];\nint *p;\nstruct S { struct S *s; int m; };\nstruct S *t;\n"):
+    """A program with a tree of an expression of this shape: what opens a level, the middle, what closes one."""
+    opening, middle, closing = shape
+    return main_of("  x = " + opening * HEIGHT + middle + closing * HEIGHT + ";\n", before)
+
+
+def statement(opening, closing):
+    """A program with a tree of a statement."""
+    return main_of(opening * HEIGHT + "x = 1;" + closing * HEIGHT + "\n", "int x;\n")
+
+
+def chain_of_calls(count):
+    """A program in which each compartment calls the next."""
+    text = MAIN + "#pragma import C1 f1\nint f1(int v);\nint main(void) {\n  int r;\n  r = f1(1);\n  return r;\n}\n"
+    for at in range(1, count):
+        text += f"#pragma compartment C{at}\n#pragma export f{at}\n"
+        if at + 1 < count:
+            text += f"#pragma import C{at + 1} f{at + 1}\nint f{at + 1}(int v);\n"
+            text += f"int f{at}(int v) {{\n  int r;\n  r = f{at + 1}(v);\n  return r;\n}}\n"
+        else:
+            text += f"int f{at}(int v) {{\n  return v;\n}}\n"
+    return text.encode()
+
+
+def exporting(count):
+    """A program with a compartment of that many exports."""
+    lines = [f"#pragma export f{at}" for at in range(count)] + [f"int f{at}(void) {{\n  return {at};\n}}" for at in range(count)]
+    return (MAIN + "int main(void) {\n  return 0;\n}\n#pragma compartment Many\n" + "\n".join(lines) + "\n").encode()
+
+
+def recursion(depth):
+    """A program whose function calls itself."""
+    return main_of("  int r;\n  r = f(%d);\n" % depth, "int f(int n) {\n  int r = 0;\n  if (n) {\n    r = f(n - 1);\n  }\n  return r;\n}\n")
+
+
+DEEP = {
+    "complements": expression(("~", "1", "")), "negations": expression(("- ", "1", "")), "nots": expression(("!", "1", "")),
+    "sums to the left": main_of("  x = 1" + " + 1" * HEIGHT + ";\n", "int x;\n"), "sums to the right": expression(("1 + (", "1", ")")),
+    "products": expression(("1 * (", "1", ")")), "comparisons": expression(("1 < (", "1", ")")),
+    "conjunctions": expression(("1 && (", "1", ")")), "disjunctions": expression(("0 || (", "1", ")")),
+    "indices": expression(("a[", "1", "]")), "places": main_of("  x = " + "*&" * 120 + "x;\n", "int x;\n"),
+    "arrows": main_of("  x = t" + "->s" * HEIGHT + "->m;\n", "int x;\nstruct S { struct S *s; int m; };\nstruct S *t;\n"),
+    "brackets": main_of("  x = " + "(" * 1022 + "1" + ")" * 1022 + ";\n", "int x;\n"),
+    "blocks of if": statement("if (1) { ", " }"), "else if": main_of("if (x) { } " + "else if (x) { } " * (HEIGHT - 5), "int x;\n"),
+    "while": statement("while (0) { ", " }"), "for": statement("for (x = 0; x < 1; x++) { ", " }"),
+    "calls of compartments": chain_of_calls(32), "exports": exporting(4096), "recursion": recursion(4000),
+}
+STACK = [["check"], ["meaning"], ["compile"], ["run"], ["explain"], ["object", "--section", "Main"]]
+
+
+def least_stack(program, words, text):
+    """The least stack in KiB, to within 4, with which a run answers as with plenty."""
+    wanted = measured(program, words, text)[0]
+    low, high = 0, 1 << 14
+    while high - low > 4:
+        middle = (low + high) // 2
+        if measured(program, words, text, middle << 10)[0] == wanted:
+            high = middle
+        else:
+            low = middle
+    return wanted[0], high
+
+
+def stacks(program):
+    """The stack of each command on each deep text."""
+    worst = (0, "", "")
+    print("stack (KiB)            " + " ".join("%8s" % words[0] for words in STACK))
+    for name, text in DEEP.items():
+        row = [least_stack(program, words, text) for words in STACK]
+        worst = max([worst] + [(least, name, words[0]) for (_, least), words in zip(row, STACK)])
+        print("%-22s " % name + " ".join("%8s" % (least if status == 0 else "(%d) %d" % (status, least)) for status, least in row))
+    print("most: %d KiB, %s, %s" % worst)
+
+
+def filled(size, head, line, tail, most=10 ** 9):
+    """A text of about that size, of lines with a number each."""
+    lines, length = [], len(head) + len(tail)
+    for at in range(most):
+        each = line.replace("@", str(at))
+        length += len(each)
+        if length > size:
+            break
+        lines.append(each)
+    return (head + "".join(lines) + tail).encode()
+
+
+def shapes(size):
+    """Texts of about that size, of one form each."""
+    end = "int main(void) {\n  return 0;\n}\n"
+    body = "int x;\nint f(int a, int b, int c, int d, int e, int g, int h, int i) {\n  return a;\n}\nint main(void) {\n  int r;\n"
+    return {
+        "functions": filled(size, MAIN, "int f@(int a) { return a; }\n", end), "prototypes": filled(size, MAIN, "int f@(int a);\n", end),
+        "globals": filled(size, MAIN, "int g@;\n", end), "structs": filled(size, MAIN, "struct S@ { int a; };\n", end),
+        "members": filled(size, MAIN + "struct S {\n", "int m@;\n", "};\n" + end), "locals": filled(size, MAIN + "int main(void) {\n", "int l@;\n", "return 0;\n}\n"),
+        "assignments": filled(size, MAIN + body, "x=1;", "return 0;\n}\n"), "calls": filled(size, MAIN + body, "r=f(1,1,1,1,1,1,1,1);", "return 0;\n}\n"),
+        "ifs": filled(size, MAIN + body, "if(1){}", "return 0;\n}\n"), "deep sums": filled(size, MAIN + body, "x=" + "1+(" * 240 + "1" + ")" * 240 + ";\n", "return 0;\n}\n"),
+        "complements": filled(size, MAIN + body, "x=" + "~" * 240 + "1;\n", "return 0;\n}\n"), "initialisers": filled(size, MAIN + "int a[1048576] = {1", ",1", "};\n" + end, 1048575),
+        "long names": filled(size, MAIN, "int " + "n" * 50 + "@;\n", end), "brackets": filled(size, MAIN + body, "x=" + "(" * 1000 + "1" + ")" * 1000 + ";\n", "return 0;\n}\n"),
+        "comments": filled(size, MAIN, "/**/", end), "spaces": filled(size, MAIN, " ", end), "an unfinished text": filled(size, MAIN + body, "x=1;", ""),
+        "marks": filled(size, MAIN + body, "+", ""), "openings": filled(size, MAIN + body, "{", ""),
+    }
+
+
+def sizes(program, words, size):
+    """What a command takes on texts of each form."""
+    print("%s, %d bytes        s  MiB  bytes a byte" % (words[0], size))
+    for name, text in shapes(size).items():
+        (status, _, err), seconds, kilobytes = measured(program, words, text)
+        print("%-20s %8.2f %6d %6.1f  status %d %s" % (name, seconds, kilobytes >> 10, 1024 * kilobytes / len(text), status, err.decode().strip()[:60]))
+
+
+def links():
+    """A program of 32 compartments that are all replaced, whose main one loops for long before and emits 4,096 events."""
+    text = MAIN + "".join(f"#pragma import C{at} f{at}\nint f{at}(int v);\n" for at in range(1, 32)) + "#pragma import Env output\nvoid output(int v);\n"
+    text += "int x[2];\nint y;\nint main(void) {\n  int i;\n  int r;\n  x[2] = 5;\n  for (i = 0; i < 450000; i++) {\n    r = i;\n  }\n  for (i = 0; i < 65; i++) {\n"
+    text += "".join(f"    r = f{at}(i);\n" for at in range(1, 32)) + "  }\n  for (i = 0; i < 1000; i++) {\n    output(y);\n  }\n  return 0;\n}\n"
+    for at in range(1, 32):
+        text += f"#pragma compartment C{at}\n#pragma export f{at}\nint x[2];\nint y;\nint f{at}(int v) {{\n  x[2] = v;\n  return y;\n}}\n"
+    return text.encode()
+
+
+def full_image():
+    """An image of 32 compartments with code and globals at their limits, as far as 64 MiB go; and its main one ends."""
+    image = b"SCIM" + (2).to_bytes(2, "little") + bytes([32, 0]) + 0x01000000.to_bytes(4, "little")
+    code = bytes.fromhex("67800000") * (1048576 // 4)
+    for at in range(32):
+        name = b"C%d" % at
+        image += bytes([len(name)]) + name + bytes([4]) + bytes(4) + len(code).to_bytes(4, "little") + code
+        image += (458752).to_bytes(4, "little") + bytes(458752)
+    return image
+
+
+def others(program):
+    """What the other commands take on their worst inputs."""
+    text = links()
+    steps = ["--steps", "16777216", "--events", "4096"]
+    cases = [("explain", ["explain", *steps], text), ("explain --show", ["explain", "--show", "32", *steps], text), ("run", ["run", *steps], text),
+             ("judge", ["judge", *steps], b"policy P\nstate s\n" + b"on s out * > 2147483646 deny\n" * 4096 + b"policy end\n" + text),
+             ("exec, 46 MiB", ["exec", *steps], full_image())]
+    print("                          s     MiB")
+    for name, words, data in cases:
+        (status, out, err), seconds, kilobytes = measured(program, words, data)
+        lines = out.decode().splitlines()
+        chain = next((line for line in lines if line.startswith("chain")), "")
+        print("%-20s %8.2f %7d  status %d, %d bytes of input, %s %s" % (name, seconds, kilobytes >> 10, status, len(data), chain, err.decode().strip()))
+
+
+def main():
+    options = argparse.ArgumentParser(description=__doc__.split("\n")[0])
+    options.add_argument("--secomp", default=os.path.join(TOP, "crates/secomp/out/secomp"))
+    options.add_argument("--only", default="stack,check,compile,others")
+    words = options.parse_args()
+    for part in words.only.split(","):
+        if part == "stack":
+            stacks(words.secomp)
+        elif part == "others":
+            others(words.secomp)
+        else:
+            sizes(words.secomp, [part], 8388608 - 64 if part == "check" else 1048576 - 64)
+
+
+if __name__ == "__main__":
+    main()
