@@ -1,6 +1,6 @@
 -- Statements, by their layers.
-use Rattle.sc_run.proofs.Common.{Bor, Doing, Exit, Frame, Left, List, Loop, Next, Option, Piece, ProgramTree, Reached}
-use Rattle.sc_run.proofs.Common.{Rest, Route, Seen, Some, State, Step, Steps, Stopped, TypedStmt, TypedStmtKind}
+use Rattle.sc_run.proofs.Common.{Bor, Doing, Exit, Frame, Left, List, Loop, Next, None, Option, Piece, ProgramTree}
+use Rattle.sc_run.proofs.Common.{Reached, Rest, Route, Seen, Some, State, Step, Steps, Stopped, TypedStmt, TypedStmtKind}
 use Rattle.sc_run.proofs.Common.{TypedStmtKind-F, Work, [], ap, arith, block_acts, c_arith, calls_in, drop, drop_all}
 use Rattle.sc_run.proofs.Common.{follow, get_or, here_of, in_order, kind_step, layer_of, leave, length, length-drop}
 use Rattle.sc_run.proofs.Common.{loop_acts, part_acts, refl, resume, roll-TypedStmtKind, stmt_acts, stmt_at, stmt_step}
@@ -81,3 +81,13 @@ part_steps {program} {before} {after} {work} {last} {f} {g} route waiting l {ste
     subst (λ o. Steps program (2 + loop_weight l) before work f
     (λ n s. follow route (part_acts program n f o tt s) (loop_acts program n f l)) step after last g) (sym is)
     (steps_wait waiting pushed (omega (arith, weighs)) (λ n s. waits n _ _) h)
+
+-- no part: the loop
+pub no_part_steps : {program : ProgramTree} {before after : Seen} {work last : List Work} {f g : Frame}
+    (route : Exit → Route) {given : Option TypedSimple} (l : Loop) {step : Step} →
+    ((n : ℕ) (s : State) → follow route (leave Next tt s) (loop_acts program n f l) ≡ loop_acts program n f l tt s) →
+    given ≡ None → Steps program (loop_weight l) before work f (λ n. loop_acts program n f l tt) step after last g →
+    Steps program (2 + loop_weight l) before work f (λ n s. follow route (part_acts program n f given tt s) (loop_acts
+    program n f l)) step after last g
+no_part_steps {program} {f = f} route l goes is h = steps_weaken (omega arith) (steps_as
+    (λ n s. ap (λ o. follow route (part_acts program n f o tt s) (loop_acts program n f l)) is ∙ goes n s) h)
