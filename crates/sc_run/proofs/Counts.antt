@@ -3,7 +3,7 @@ use Rattle.sc_run.proofs.Common.{Block, Bool, Cell, List, None, Option, ProgramT
 use Rattle.sc_run.proofs.Common.{TypedParam, TypedSection, TypedStruct, [], ap, arith, cells_of, first_blocks, get_or}
 use Rattle.sc_run.proofs.Common.{global_block, globals_of, is_array, length, length-append, length-map, length-take}
 use Rattle.sc_run.proofs.Common.{map, not, refl, slice_get, struct_zeros, subst, suc, sym, take, true, with_blocks}
-use Rattle.sc_run.proofs.Common.{with_words, zero, zeros_of, ℕ, ◌++◌, ◌+◌, ◌<◌, ◌∙◌, ◌∷◌, ◌≡◌, ◌≤◌}
+use Rattle.sc_run.proofs.Common.{with_words, zero, zeros_of, ℕ, ◌++◌, ◌<◌, ◌∙◌, ◌∷◌, ◌≡◌, ◌≤◌}
 use Rattle.std.proofs.Common.{leb-true, nat_le, ◌^◌}
 use Rattle.std.proofs.lemmas.Bool.{and_from}
 use Rattle.std.specs.List.{list_all}
