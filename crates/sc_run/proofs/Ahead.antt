@@ -330,8 +330,8 @@ module _ (program : ProgramTree) (f : Frame) where
   -- nothing follows the part
   pub part_last : {before : Seen} {work : List Work} (stmts : List TypedStmt) {rest : List TypedStmt} (at : Position)
       {b : Bool} → rest ≡ take (length stmts - at.count) (drop at.count stmts) → b ≡ (length rest == 0) → b ≡ true →
-      Steps program (place_weight stmts at) before work f (left_at program f stmts (Some at)) (Go (Run' at.part)) before
-      work f
+      Steps program (place_weight stmts at) before work f (left_at program f stmts (Some at)) (Go (Run' at.part))
+      before work f
   part_last stmts {rest} at same none empty = steps_later (omega arith) (λ n s. ap
       (λ xs. follow in_order (block_by at.part.now n s) (block_acts program n f xs))
       (sym (same ∙ rest_at _ stmts) ∙ none_in rest none empty) ∙ followed_by_nothing _)
@@ -339,8 +339,8 @@ module _ (program : ProgramTree) (f : Frame) where
   -- there is no part
   pub rest_only : {before : Seen} {work : List Work} (stmts : List TypedStmt) (rest : Bor (List TypedStmt))
       (at : Position) → rest.now ≡ take (length stmts - at.count) (drop at.count stmts) → at.part.now ≡ [] →
-      Steps program (place_weight stmts at) before work f (left_at program f stmts (Some at)) (Go (Run' rest)) before
-      work f
+      Steps program (place_weight stmts at) before work f (left_at program f stmts (Some at)) (Go (Run' rest))
+      before work f
   rest_only stmts rest at same empty =
       steps_later (omega (arith, ap (λ xs. block_nodes xs) (same ∙ rest_at at.count stmts)))
       (λ n s. no_part stmts at empty n s ∙ ap (λ xs. block_by xs n s) (sym (same ∙ rest_at at.count stmts)))
@@ -349,8 +349,8 @@ module _ (program : ProgramTree) (f : Frame) where
   pub rest_waits : {before : Seen} {work later : List Work} (stmts : List TypedStmt) (rest : Bor (List TypedStmt))
       (at : Position) → rest.now ≡ take (length stmts - at.count) (drop at.count stmts) →
       later ≡ work ++ Rest rest ∷ [] →
-      Steps program (place_weight stmts at) before work f (left_at program f stmts (Some at)) (Go (Run' at.part)) before
-      later f
+      Steps program (place_weight stmts at) before work f (left_at program f stmts (Some at)) (Go (Run' at.part))
+      before later f
   rest_waits {work} stmts rest at same pushed =
       let is = same ∙ rest_at at.count stmts in
       steps_wait (Rest rest) pushed
@@ -395,16 +395,15 @@ pub choose_goes : (program : ProgramTree) (f : Frame) (first second : Bor (List 
     (λ n s. and_then (p s) (λ v s. choose v (block_acts program n f first.now tt s)
     (block_acts program n f second.now tt s)))
     (Go (if b then Run' first else Run' second)) before work f
-choose_goes program f first second {before} {work} {v} {b} c is = steps_on (λ n v s. choose v (block_acts program n f
-    first.now tt s)
-    (block_acts program n f second.now tt s)) c (chosen_so b is) where
+choose_goes program f first second {before} {work} {v} {b} c is = steps_on
+    (λ n v s. choose v (block_acts program n f first.now tt s) (block_acts program n f second.now tt s)) c
+    (chosen_so b is) where
       chosen_so : (b : Bool) → is_true v ≡ b → Steps program
           (3 + 8 * (block_nodes first.now + block_nodes second.now)) before work f
           (λ n s. choose v (block_acts program n f first.now tt s) (block_acts program n f second.now tt s))
           (Go (if b then Run' first else Run' second)) before work f
       chosen_so true is = steps_later (omega arith) (λ n s. ap (λ b. if b then block_acts program n f first.now tt s
-          else
-          block_acts program n f second.now tt s) is)
+          else block_acts program n f second.now tt s) is)
       chosen_so false is = steps_later (omega arith) (λ n s. ap (λ b. if b then block_acts program n f first.now tt s
           else block_acts program n f second.now tt s) is)
 

@@ -28,16 +28,15 @@ pub unstored : {program : ProgramTree} {cost : ℕ} {before after : Seen} {work 
     Steps program cost before work f (λ n s. result_goes program f to result s) (Stop end) after work f
 unstored {program} {cost} {before} {after} {work} {f} {result} place line {end} is has c =
     subst (λ x. Steps program cost before work f (λ n s. result_goes program f x result s) (Stop end) after work f)
-    (sym is) (subst (λ x. Steps program cost before work f (λ n s. result_goes program f (Place place line) x s) (Stop
-    end) after work
-    f) (sym has) (step_ends c))
+    (sym is) (subst (λ x. Steps program cost before work f (λ n s. result_goes program f (Place place line) x s)
+    (Stop end) after work f) (sym has) (step_ends c))
 
 -- a result that is stored
 pub is_stored : {program : ProgramTree} {before after : Seen} {work : List Work} {f : Frame} {to : To}
     {result : Option Value} (place : Bor TypedExpr) (line : ℕ) {v : Value} → to ≡ Place place line →
     result ≡ Some v → Comes before after usual (store_at (here_of f.scope) (way_in f place.now) v line tt) →
-    Steps program leaf_weight before work f (λ n s. result_goes program f to result s) (Go (Leave exits.Next)) after
-    work f
+    Steps program leaf_weight before work f (λ n s. result_goes program f to result s) (Go (Leave exits.Next))
+    after work f
 is_stored {program} {before} {after} {work} {f} {result} place line is has c =
     subst (λ x. Steps program leaf_weight before work f (λ n s. result_goes program f x result s)
     (Go (Leave exits.Next)) after work f) (sym is)
@@ -375,9 +374,9 @@ module _ (program : ProgramTree) (f : Frame) (exit : Exit) where
         {back : Option Value} {ended emitted after : Seen} {step : Step} → ClosedBy program f exit (Ok v) →
         ended ≡ left_by f before → back ≡ back_value program f crossing v →
         emitted ≡ emitted_return program caller f crossing v ended →
-        Steps program leaf_weight emitted work caller (λ n s. result_goes program caller to back s) step after work
-        caller → Steps program 1 before (work ++ Caller caller to crossing ∷ []) f (λ n s. leaving s) step after work
-        caller
+        Steps program leaf_weight emitted work caller (λ n s. result_goes program caller to back s) step
+        after work caller →
+        Steps program 1 before (work ++ Caller caller to crossing ∷ []) f (λ n s. leaving s) step after work caller
     return_steps {work} {caller} to crossing v {back} {ended} {emitted} {step} is ends gives emits_trace h =
         record {
           falls = λ light waiting. eased (taken_up work (Caller caller to crossing) refl before (omega arith))

@@ -62,14 +62,13 @@ module _ (program : ProgramTree) (f : Frame) (to : To) where
       (step_stops (λ n. rg) halts))
 
   allowed : {cost : ℕ} {before after : Seen} {work later : List Work} (target : CallTarget) (args : List Value)
-      {step : Step}
-      {g : Frame} → may_call (denotations program) f.scope.comp.now target args ≡ true →
+      {step : Step} {g : Frame} → may_call (denotations program) f.scope.comp.now target args ≡ true →
       Steps program cost before work f (tried true target args) step after later g →
       Steps program cost before work f (calling target args) step after later g
   allowed target args is h = steps_as (λ n s. ap (λ b. tried b target args n s) is) h
 
-  pub own_missing : {cost : ℕ} {before : Seen} {work : List Work} (number : ℕ) (args : List Value) {end : RunEnd} → end
-      ≡ refusal →
+  pub own_missing : {cost : ℕ} {before : Seen} {work : List Work} (number : ℕ) (args : List Value)
+      {end : RunEnd} → end ≡ refusal →
       function (denotations program) f.scope.comp.now number ≡ None →
       Steps program cost before work f (calling (Own number) args) (Stop end) before work f
   own_missing number args same is = refused (Own number) args same (ap is_some is)
@@ -87,9 +86,8 @@ module _ (program : ProgramTree) (f : Frame) (to : To) where
   is_there callee here place there = (λ i. is_some
       (function (denotations program) (sym here i) (sym place i))) ∙ ap is_some there
 
-  pub own_enters : {cost : ℕ} {before after : Seen} {work later : List Work} (callee : Callee) (number : ℕ) (args :
-      List Value)
-      {step : Step} {g : Frame} → FoundAt program f.scope.comp.now number (Some callee) →
+  pub own_enters : {cost : ℕ} {before after : Seen} {work later : List Work} (callee : Callee) (number : ℕ)
+      (args : List Value) {step : Step} {g : Frame} → FoundAt program f.scope.comp.now number (Some callee) →
       Steps program cost before work f (entering callee args None) step after later g →
       Steps program cost before work f (calling (Own number) args) step after later g
   own_enters callee number args found h = allowed (Own number) args (is_there callee found.0 found.1 found.2)
@@ -128,8 +126,7 @@ module _ (program : ProgramTree) (f : Frame) (to : To) where
     cross_missing same none = refused (Cross comp index) args same (last_fails _ taken words (no_lead _ refl none))
 
     pub cross_enters : {cost : ℕ} {before after : Seen} {work later : List Work} (callee : Callee) {step : Step}
-        {g : Frame} →
-        MayCross true → EntryAt program comp (Export index) (Some callee) →
+        {g : Frame} → MayCross true → EntryAt program comp (Export index) (Some callee) →
         Steps program cost before work f (entering callee args (Some index)) step after later g →
         Steps program cost before work f (calling (Cross comp index) args) step after later g
     cross_enters callee may entry h = allowed (Cross comp index) args (all_hold imported taken words (sym may)
@@ -217,8 +214,7 @@ module _ (program : ProgramTree) (f : Frame) (to : To) where
       (steps_on (λ n vs. calling target vs n) (rw (same, is) at c) (rw values_is at h))
 
   pub call_blamed_by : {cost : ℕ} {before : Seen} {work : List Work} (target : CallTarget)
-      {es given_es : List TypedExpr}
-      (line : ℕ) {r : Result (List Value) RunEnd} {end : RunEnd} → given_es ≡ es → r ≡ Err end →
+      {es given_es : List TypedExpr} (line : ℕ) {r : Result (List Value) RunEnd} {end : RunEnd} → given_es ≡ es → r ≡ Err end →
       Comes before before r (given_args target given_es line) →
       Steps program cost before work f (whole_call target es line) (Stop end) before work f
   call_blamed_by target line same is c = steps_as (by_assoc target _ line)

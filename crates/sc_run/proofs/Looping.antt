@@ -170,9 +170,10 @@ module _ {program : ProgramTree} {before : Seen} {work : List Work} {f : Frame} 
 
   -- something more that waits
   pub steps_wait : {cost rest : ℕ} (w : Work) {later last : List Work} {p q : Doing} {step : Step} {after : Seen}
-      {g : Frame} → later ≡ work ++ w ∷ [] → rest + weight w ≤ cost → ((n : ℕ) (s : State) → resume program n (reverse
-      work) f (p n s) ≡ resume program n (w ∷
-      reverse work) f (q n s)) → Steps program rest before later f q step after last g →
+      {g : Frame} → later ≡ work ++ w ∷ [] → rest + weight w ≤ cost →
+      ((n : ℕ) (s : State) →
+      resume program n (reverse work) f (p n s) ≡ resume program n (w ∷ reverse work) f (q n s)) →
+      Steps program rest before later f q step after last g →
       Steps program cost before work f p step after last g
   steps_wait w {q} {step} is fits same h =
       record {
@@ -185,9 +186,10 @@ module _ {program : ProgramTree} {before : Seen} {work : List Work} {f : Frame} 
 
   -- something that waited is taken up
   pub steps_resume : {cost : ℕ} (w : Work) {earlier last : List Work} {p q : Doing} {step : Step} {after : Seen}
-      {g : Frame} → work ≡ earlier ++ w ∷ [] → cost ≤ suc (weight w) → ((n : ℕ) (s : State) → resume program n (w ∷
-      reverse earlier) f (p n s) ≡ resume
-      program n (reverse earlier) f (q n s)) → Steps program cost before earlier f q step after last g →
+      {g : Frame} → work ≡ earlier ++ w ∷ [] → cost ≤ suc (weight w) →
+      ((n : ℕ) (s : State) →
+      resume program n (w ∷ reverse earlier) f (p n s) ≡ resume program n (reverse earlier) f (q n s)) →
+      Steps program cost before earlier f q step after last g →
       Steps program 1 before work f p step after last g
   steps_resume w {earlier} {p} {step} is fits same h =
       record {
@@ -247,8 +249,8 @@ module _ {program : ProgramTree} {before after : Seen} {work later : List Work} 
 -- the test of a loop doesn't hold
 pub round_ends : {program : ProgramTree} {before : Seen} {work : List Work} {f : Frame} (l : Loop) {v : Value} →
     Comes before before (Ok v) (cond_evaluated program f l) → is_true v ≡ false →
-    Steps program (loop_weight l) before work f (λ n. loop_acts program n f l tt) (Go (Leave leaving.Next)) before work
-    f
+    Steps program (loop_weight l) before work f (λ n. loop_acts program n f l tt) (Go (Leave leaving.Next))
+    before work f
 round_ends {program} {f} l c false_is = steps_as (round_is program f l) (steps_on (λ n v s. tested program f l n _ s) c
     (steps_as (λ n s. ap (λ b. tested program f l n b s) false_is) (steps_later (omega arith) (λ n s. refl))))
 
@@ -257,8 +259,7 @@ not_none e = omega (arith, e)
 
 -- nothing waits
 pub nothing_waits : {program : ProgramTree} {cost : ℕ} {before after : Seen} (work later : List Work) {f g : Frame}
-    {p : Doing}
-    {step : Step} → length work ≡ 0 → length later ≡ 0 → Steps program cost before [] f p step after [] g →
+    {p : Doing} {step : Step} → length work ≡ 0 → length later ≡ 0 → Steps program cost before [] f p step after [] g →
     Steps program cost before work f p step after later g
 nothing_waits [] [] a b h = h
 nothing_waits [] (w ∷ later) a b h = absurd (not_none b)
@@ -267,9 +268,9 @@ nothing_waits (w ∷ work) later a b h = absurd (not_none a)
 module _ {program : ProgramTree} {before after : Seen} {work later : List Work} {f g : Frame} {w x : Work} {p : Doing}
     {step : Step} where
   pub taken : {cost : ℕ} {earlier : List Work} (exit : Exit) → work ≡ earlier ++ w ∷ [] → w ≡ x →
-      cost ≤ suc (weight x) → Steps program cost before earlier f p step after later g → ((n : ℕ) (s : State) → resume
-      program n (x ∷ reverse
-      earlier) f (leave exit tt s) ≡ resume program n (reverse earlier) f (p n s)) →
+      cost ≤ suc (weight x) → Steps program cost before earlier f p step after later g →
+      ((n : ℕ) (s : State) →
+      resume program n (x ∷ reverse earlier) f (leave exit tt s) ≡ resume program n (reverse earlier) f (p n s)) →
       Steps program 1 before work f (λ n s. leave exit tt s) step after later g
   taken {earlier} exit popped is fits h same = steps_resume x (popped ∙ ap (λ y. earlier ++ y ∷ []) is) fits same h
 

@@ -1,4 +1,4 @@
--- Room for variables is kept.
+-- Numbers for variables are kept.
 use Rattle.sc_run.proofs.Common.{Block, Blocks, Bool, Callee, Cause, Err, Frame, List, Memory, None, Ok, Option, Result}
 use Rattle.sc_run.proofs.Common.{Seen, Some, Value, Ways, ap, arith, blocks_for, cleared, emitted_call, false}
 use Rattle.sc_run.proofs.Common.{if◌then◌else◌, length, length-append, store, subst, suc, sym, true, with_blocks, ℕ}
@@ -12,7 +12,7 @@ use Rattle.sc_run.specs.Numbers.{NumbersSuffice}
 use Rattle.sc_run.proofs.Lengths.{length_blocks_for, length_cleared, length_free, length_store, length_words}
 use Rattle.sc_run.proofs.Making.{at_itself, with_sizes}
 
--- ROOM IS KEPT
+-- NUMBERS ARE KEPT
 
 pub numbers_fewer : {memory : Memory} {turns fewer : ℕ} → fewer ≤ turns → NumbersSuffice memory turns →
     NumbersSuffice memory fewer

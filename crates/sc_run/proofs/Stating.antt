@@ -23,12 +23,11 @@ stmt_is program f stmt k is n s = ap (λ x. stmt_acts program n f (record { line
     stmt_step stmt.line k i tt s)
 
 -- a statement does what its layer does
-pub stmt_as : {program : ProgramTree} {cost : ℕ} {before after : Seen} {work later : List Work} {f g : Frame} (stmt :
-    TypedStmt)
-    (k : TypedStmtKind-F TypedStmtKind TypedStmt) {step : Step} → stmt.kind ≡ roll-TypedStmtKind k →
-    cost ≤ 8 * nodes_in k → Steps program cost before work f (λ n. layer_acts program n f k stmt.line) step after later
-    g
-    → Steps program (stmt_weight stmt) before work f (λ n. stmt_acts program n f stmt tt) step after later g
+pub stmt_as : {program : ProgramTree} {cost : ℕ} {before after : Seen} {work later : List Work} {f g : Frame}
+    (stmt : TypedStmt) (k : TypedStmtKind-F TypedStmtKind TypedStmt) {step : Step} →
+    stmt.kind ≡ roll-TypedStmtKind k → cost ≤ 8 * nodes_in k →
+    Steps program cost before work f (λ n. layer_acts program n f k stmt.line) step after later g →
+    Steps program (stmt_weight stmt) before work f (λ n. stmt_acts program n f stmt tt) step after later g
 stmt_as {program} {f} stmt k is fits h =
     steps_as (stmt_is program f stmt k is) (steps_weaken (omega (arith, fits, nodes_are stmt k is)) h)
 
@@ -71,12 +70,12 @@ last_steps {program} {f} {stmts} stmt split one h = steps_weaken (omega (arith, 
 -- a part of a `for`, while the loop waits: the first one, or what comes before the next round
 pub part_steps : {program : ProgramTree} {before after : Seen} {work later last : List Work} {f g : Frame}
     (route : Exit → Route) (waiting : Work) {given : Option TypedSimple} {part : TypedSimple} (l : Loop) {step : Step} →
-    ((n : ℕ) (ws : List Work) (p : Piece (Left (Unit {0}))) → resume program n ws f (follow route p (loop_acts program n
-    f l)) ≡ resume program n (waiting ∷ ws) f p) → weight waiting ≡ loop_weight l → given ≡ Some part → later ≡ work ++
-    waiting ∷ [] →
+    ((n : ℕ) (ws : List Work) (p : Piece (Left (Unit {0}))) →
+    resume program n ws f (follow route p (loop_acts program n f l)) ≡ resume program n (waiting ∷ ws) f p) →
+    weight waiting ≡ loop_weight l → given ≡ Some part → later ≡ work ++ waiting ∷ [] →
     Steps program leaf_weight before later f (λ n. part_acts program n f (Some part) tt) step after last g →
-    Steps program (2 + loop_weight l) before work f (λ n s. follow route (part_acts program n f given tt s) (loop_acts
-    program n f l)) step after last g
+    Steps program (2 + loop_weight l) before work f
+    (λ n s. follow route (part_acts program n f given tt s) (loop_acts program n f l)) step after last g
 part_steps {program} {before} {after} {work} {last} {f} {g} route waiting l {step} waits weighs is pushed h =
     subst (λ o. Steps program (2 + loop_weight l) before work f
     (λ n s. follow route (part_acts program n f o tt s) (loop_acts program n f l)) step after last g) (sym is)
@@ -87,7 +86,7 @@ pub no_part_steps : {program : ProgramTree} {before after : Seen} {work last : L
     (route : Exit → Route) {given : Option TypedSimple} (l : Loop) {step : Step} →
     ((n : ℕ) (s : State) → follow route (leave Next tt s) (loop_acts program n f l) ≡ loop_acts program n f l tt s) →
     given ≡ None → Steps program (loop_weight l) before work f (λ n. loop_acts program n f l tt) step after last g →
-    Steps program (2 + loop_weight l) before work f (λ n s. follow route (part_acts program n f given tt s) (loop_acts
-    program n f l)) step after last g
+    Steps program (2 + loop_weight l) before work f
+    (λ n s. follow route (part_acts program n f given tt s) (loop_acts program n f l)) step after last g
 no_part_steps {program} {f = f} route l goes is h = steps_weaken (omega arith) (steps_as
     (λ n s. ap (λ o. follow route (part_acts program n f o tt s) (loop_acts program n f l)) is ∙ goes n s) h)

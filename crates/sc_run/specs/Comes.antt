@@ -10,11 +10,10 @@ CameTo (Ok v) seen (Stopped end s) = ⊥
 CameTo (Err end) seen (Reached w s) = ⊥
 CameTo (Err end) seen (Stopped e s) = (e ≡ end) × (seen_of s ≡ seen)
 
--- from every state of which the first is seen, the piece comes to this; it takes turns, and gives none; and makes at
--- most so many blocks
-pub record ComesMaking (made : ℕ) {V : Type 0} (before after : Seen) (result : Result V RunEnd) (piece : State → Piece
-    V)
-    : Type 0 where
+-- from every state of which the first is seen, the piece comes to this; it takes turns, gives none, and makes `made`
+-- blocks at most
+pub record ComesMaking (made : ℕ) {V : Type 0} (before after : Seen) (result : Result V RunEnd)
+    (piece : State → Piece V) : Type 0 where
   pub comes : (s : State) → seen_of s ≡ before → CameTo result after (piece s)
   pub fewer : after.turns ≤ before.turns
   pub lengths : (comp : ℕ) → length (after.memory comp) ≤ length (before.memory comp) + made

@@ -18,5 +18,5 @@ pub use Rattle.sc_run.specs.Resume.{next_acts, part_acts, result_goes, resume, r
 pub use Rattle.sc_run.specs.Returning.{back_value, emitted_return, ended_as, left_by, variable_count, word_crossing}
 pub use Rattle.sc_run.specs.Seen.{Seen, kept_by, seen_of}
 pub use Rattle.sc_run.specs.Starting.{cell_with}
-pub use Rattle.sc_run.specs.Weights.{AnotherSuffices, HasRoom, IsLess, block_nodes, block_weight, body_weight}
-pub use Rattle.sc_run.specs.Weights.{leaf_weight, loop_weight, now_weight, place_weight, stmt_weight}
+pub use Rattle.sc_run.specs.Weights.{AnotherSuffices, IsLess, NumbersLast, block_nodes, block_weight}
+pub use Rattle.sc_run.specs.Weights.{body_weight, leaf_weight, loop_weight, now_weight, place_weight, stmt_weight}

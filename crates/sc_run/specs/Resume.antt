@@ -131,7 +131,7 @@ module _ (program : ProgramTree) where
   Stands whole (Go now) seen work f = Standing whole seen work f (does_now f now)
   Stands whole (Stop end) seen work f = whole ≡ record { trace = seen.trace; end = end }
 
-  -- a step, whatever the whole run is, of what weighs so much: less is left after it
+  -- a step of what weighs `cost`, whatever the whole run is: less is left after it
   pub record Steps (cost : ℕ) (before : Seen) (work : List Work) (f : Frame)
       (piece : ℕ → State → Piece (Left (Unit {0}))) (step : Step) (after : Seen) (later : List Work) (g : Frame)
       : Type 0 where

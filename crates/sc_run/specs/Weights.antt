@@ -1,4 +1,4 @@
--- Helping: how much a run has left to do. It falls at every step, for each block that is made by one more.
+-- Helping: how much a run has left to do. It falls at every step, and by no less than the blocks that are made.
 use Rattle.sc_run.specs.Common.{Loop, TypedStmt}
 use Rattle.sc_core.specs.Prelude.{most_nodes, stmt_nodes, total}
 use Rattle.std.specs.Prelude.{◌≡◌, ℕ, suc, ◌+◌, ◌-◌, ◌*◌, ◌^◌, ◌<◌, ◌≤◌, List, [], ◌∷◌, drop, length, map, take}
@@ -67,7 +67,7 @@ AreLight (w ∷ work) = (weight w ≤ most_weight) × AreLight work
 
 -- more than the weights that begin, and the variables, with a turn
 abbrev pub most_a_turn : ℕ
-most_a_turn = 536870912
+most_a_turn = 2 ^ 29
 
 -- what is left to do before the end of the run, or of its turns
 abbrev pub left : ℕ → Seen → List Work → ℕ
@@ -77,7 +77,7 @@ left cost seen work = cost + weights work + most_a_turn * seen.turns
 abbrev pub AnotherSuffices : Seen → Type 0
 AnotherSuffices seen = (comp : ℕ) → length (seen.memory comp) + most_nodes * seen.turns < 2 ^ 63
 
--- less is left to do, by more than the blocks that were made
+-- less is left to do, by no less than the blocks that were made
 pub record Falls (cost : ℕ) (before : Seen) (work : List Work) (rest : ℕ) (after : Seen) (later : List Work) : Type 0
   where
     pub less : left rest after later < left cost before work
@@ -87,7 +87,7 @@ pub record Falls (cost : ℕ) (before : Seen) (work : List Work) (rest : ℕ) (a
     pub waiting : AreLight later
 
 -- numbers suffice for the blocks that are made in what is left to do
-pub record HasRoom (cost : ℕ) (seen : Seen) (work : List Work) : Type 0 where
+pub record NumbersLast (cost : ℕ) (seen : Seen) (work : List Work) : Type 0 where
   pub numbers : (comp : ℕ) → length (seen.memory comp) + left cost seen work ≤ 2 ^ 63
   pub light : cost ≤ most_weight
   pub waiting : AreLight work

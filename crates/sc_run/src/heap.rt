@@ -122,9 +122,9 @@ pub fn malloc<'a>(
     line: u32,
 ) -> Result<Step<'a>, OutOfMemory>
     requires { AnotherSuffices (kept_by run.old.machine) }
-    ensures { IfOk result (λ step. Advances program.now leaf_weight run.old (λ n. allocate_at (here_of
-        run.old.frame.scope)
-        (way_in run.old.frame place.now) (count_way_in run.old.frame count.now) cells line tt) step run.new) }
+    ensures { IfOk result (λ step. Advances program.now leaf_weight run.old (λ n. allocate_at
+        (here_of run.old.frame.scope) (way_in run.old.frame place.now) (count_way_in run.old.frame count.now) cells
+        line tt) step run.new) }
 {
     let done = allocate_at(&mut run.machine, &run.frame, place, count, cells, line)?;
     match done {

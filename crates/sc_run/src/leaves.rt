@@ -24,8 +24,8 @@ fn leave_before_rest<'a>(
     rest: &'a [TypedStmt],
     exit: Leaving,
 ) -> Step<'a>
-    ensures { Advances program.now (suc (block_weight rest.now)) run.now (λ n s. follow in_order (leave (exit_of exit)
-        tt s)
+    ensures { Advances program.now (suc (block_weight rest.now)) run.now
+        (λ n s. follow in_order (leave (exit_of exit) tt s)
         (block_acts program.now n run.now.frame rest.now)) result run.now }
 {
     match exit {

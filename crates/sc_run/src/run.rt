@@ -1,6 +1,6 @@
 //! Whole runs.
 
-ghost use Rattle.sc_run.specs.Prelude.{Advances, AnotherSuffices, EndsAs, HasRoom, does_now, kept_by, meaning};
+ghost use Rattle.sc_run.specs.Prelude.{Advances, AnotherSuffices, EndsAs, NumbersLast, does_now, kept_by, meaning};
 ghost use Rattle.sc_run.specs.Prelude.{now_weight, stopped_at};
 ghost use Rattle.sc_word.specs.Prelude.{word_of};
 ghost use Rattle.std.specs.Prelude.{◌≡◌, [], map, take, IfOk};
@@ -70,8 +70,8 @@ fn run_on<'a>(
     first: Now<'a>,
     events: u32,
 ) -> Result<RunEnd, OutOfMemory>
-    requires alone { run.old.work.items ≡ [] }
-    requires room { HasRoom (now_weight first) (kept_by run.old.machine) [] }
+    requires nothing_waits { run.old.work.items ≡ [] }
+    requires numbers { NumbersLast (now_weight first) (kept_by run.old.machine) [] }
     ensures { IfOk result (λ end. EndsAs program.now first.entry
         (kept_by run.old.machine) run.old.frame events run.new.machine.trace end) }
 {
@@ -86,7 +86,8 @@ fn run_on<'a>(
     Ok(RunEnd::EventsOut)
 }
 
-/// Runs a program as its meaning says, with these inputs, up to `turns` turns and `events` events.
+/// Runs a program as its meaning says, with these inputs, up to `turns` turns and `events` events. The only error is
+/// memory that isn't given: no run has too many steps, or too many blocks.
 #[tactic(auto, using(crate::proofs::Counts::numbers_started))]
 pub fn run_source(
     alloc: Global,

@@ -225,9 +225,8 @@ pub fn assigned<'a>(
     value: &TypedExpr,
     line: u32,
 ) -> Step<'a>
-    ensures { Advances program.now leaf_weight run.old (λ n. assign (here_of run.old.frame.scope) (way_in run.old.frame
-        place.now)
-        (way_in run.old.frame value.now) line tt) result run.new }
+    ensures { Advances program.now leaf_weight run.old (λ n. assign (here_of run.old.frame.scope)
+        (way_in run.old.frame place.now) (way_in run.old.frame value.now) line tt) result run.new }
 {
     match assign(&mut run.machine, &run.frame, place, value, line) {
         Ok(()) => Step::Go(Now::Leave(Leaving::Next)),

@@ -7,8 +7,8 @@ returns-in-Next c = rw c.in-Next.is (IfOk-weaker c.round.result _ _ (λ step h. 
     c.round.ensures)
 
 pub returns-in-Continue : goal.returns-in-Continue
-returns-in-Continue c = rw c.in-Continue.is (IfOk-weaker c.round-in-Continue.result _ _ (λ step h. steps_weaken (omega
-    arith) h) c.round-in-Continue.ensures)
+returns-in-Continue c = rw c.in-Continue.is (IfOk-weaker c.round-in-Continue.result _ _
+    (λ step h. steps_weaken (omega arith) h) c.round-in-Continue.ensures)
 
 pub returns-in-Break : goal.returns-in-Break
 returns-in-Break c = rw c.in-Break.is (steps_later (omega arith) (λ n s. refl))

@@ -1,11 +1,11 @@
 use Rattle.sc_run.proofs.Common.{Standing, does_now, kept_by, subst, sym, ◌≤◌}
-use Rattle.sc_run.proofs.Rooms.{another_suffices, less_after, room_after}
+use Rattle.sc_run.proofs.Lasting.{another_suffices, lasts_after, less_after}
 use Rattle.sc_run.proofs.Whole.{since_step, since_stop, since_events}
-use Rattle.sc_run.specs.Weights.{HasRoom, now_weight}
+use Rattle.sc_run.specs.Weights.{NumbersLast, now_weight}
 use Rattle.sc_run.proofs.run.run_on.Goals as goal
 
 pub proceed-requires : goal.proceed-requires
-proceed-requires c = another_suffices c.loop-now.now c.loop-now.invariant.room
+proceed-requires c = another_suffices c.loop-now.now c.loop-now.invariant.numbers
 
 pub returns : goal.returns
 returns c =
@@ -26,20 +26,20 @@ loop-now-preserved c = record {
       c.loop-now.now (kept_by c.loop-now.run.machine) c.loop-now.run.work.items c.loop-now.run.frame
       c.loop-now.invariant.since c.in-Ok-Go.field-0 (kept_by c.proceed.new.run.machine) c.proceed.new.run.work.items
       c.proceed.new.run.frame c.in-Ok-Go.ensures c.in-Ok-Go.field-0-is;
-  room = room_after
-      (c.in-Ok-Go.ensures.falls c.loop-now.invariant.room.light c.loop-now.invariant.room.waiting)
-      c.in-Ok-Go.field-0-is c.loop-now.invariant.room;
+  numbers = lasts_after
+      (c.in-Ok-Go.ensures.falls c.loop-now.invariant.numbers.light c.loop-now.invariant.numbers.waiting)
+      c.in-Ok-Go.field-0-is c.loop-now.invariant.numbers;
 }
 
 pub loop-now-smaller : goal.loop-now-smaller
 loop-now-smaller c = less_after
-    (c.in-Ok-Go.ensures.falls c.loop-now.invariant.room.light c.loop-now.invariant.room.waiting) c.in-Ok-Go.field-0-is
+    (c.in-Ok-Go.ensures.falls c.loop-now.invariant.numbers.light c.loop-now.invariant.numbers.waiting) c.in-Ok-Go.field-0-is
 
 pub loop-now-init : goal.loop-now-init
 loop-now-init c = record {
   since = λ whole h. subst
       (λ ws. Standing c.args.program.now whole (kept_by c.args.run.now.machine) ws c.args.run.now.frame
-      (does_now c.args.program.now c.args.run.now.frame c.args.first)) (sym c.requires.alone) h;
-  room = subst (λ ws. HasRoom (now_weight c.args.first) (kept_by c.args.run.now.machine) ws) (sym c.requires.alone)
-      c.requires.room;
+      (does_now c.args.program.now c.args.run.now.frame c.args.first)) (sym c.requires.nothing_waits) h;
+  numbers = subst (λ ws. NumbersLast (now_weight c.args.first) (kept_by c.args.run.now.machine) ws) (sym c.requires.nothing_waits)
+      c.requires.numbers;
 }

@@ -1,5 +1,5 @@
 use Rattle.sc_run.proofs.Common.{kept_by}
-use Rattle.sc_run.proofs.Rooms.{Underway}
+use Rattle.sc_run.proofs.Lasting.{Underway}
 use Rattle.sc_run.specs.Weights.{left, now_weight}
 use Rattle.sc_run.proofs.run.run_on.Given as goal
 

@@ -3,7 +3,7 @@ use Rattle.sc_word.specs.Prelude.{word_of}
 use Rattle.sc_run.proofs.Counts.{numbers_at_first, numbers_started, sections_small}
 use Rattle.sc_run.proofs.Whole.{gone_through, over_at_once, seen_at_first}
 use Rattle.sc_run.specs.Numbers.{HaveSmallGlobals}
-use Rattle.sc_run.proofs.Rooms.{room_after, room_at_first}
+use Rattle.sc_run.proofs.Lasting.{lasts_after, lasts_at_first}
 use Rattle.sc_run.proofs.run.run_source.Goals as goal
 
 pub first_blocks-requires : goal.first_blocks-requires
@@ -50,9 +50,9 @@ returns-in_ok-end-in-Go c =
     c.in-Some.ensures.found) c.in_ok-frame.ensures (rw c.new-work.ensures.items at c.start.ensures)
     c.run_on.new.run.machine.trace _ c.in-Go.is c.in_ok-end-in-Go.ensures c.behaviour-in-Go.ensures
 
-pub run_on-requires-clause-room : goal.run_on-requires-clause-room
-run_on-requires-clause-room c =
-    let room = room_at_first c.args.program.now c.tree-tree.ensures.typed (c.in_ok-globals.ensures ∙
+pub run_on-requires-clause-numbers : goal.run_on-requires-clause-numbers
+run_on-requires-clause-numbers c =
+    let last = lasts_at_first c.args.program.now c.tree-tree.ensures.typed (c.in_ok-globals.ensures ∙
     ap globals_of (c.as_slice.ensures ∙ ap (λ p. p.sections) c.tree-tree.ensures.tree)) (omega arith)
     c.in-Some.ensures.variables c.in_ok-frame.ensures in
-    room_after ((rw c.new-work.ensures.items at c.start.ensures).falls room.light tt) c.in-Go.is room
+    lasts_after ((rw c.new-work.ensures.items at c.start.ensures).falls last.light tt) c.in-Go.is last

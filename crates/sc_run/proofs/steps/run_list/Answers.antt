@@ -1,7 +1,7 @@
 use Rattle.sc_run.proofs.Common.{IfOk-weaker, arith, kept_by, refl}
 use Rattle.sc_run.proofs.Ahead.{steps_after, none_in, rest_after}
 use Rattle.sc_run.proofs.Looping.{steps_later, steps_weaken}
-use Rattle.sc_run.proofs.Rooms.{number_left}
+use Rattle.sc_run.proofs.Lasting.{number_left}
 use Rattle.sc_run.proofs.Weighing.{not_empty, place_less, some_in_block}
 use Rattle.sc_run.proofs.steps.run_list.Goals as goal
 

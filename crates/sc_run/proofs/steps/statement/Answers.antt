@@ -44,9 +44,8 @@ returns-in-Malloc c = IfOk-weaker c.malloc.result _ _ (λ step h. stmt_as c.args
     (rw c.get-in-Malloc.ensures.value (c.in-Malloc.is ∙ sym (rolls-Malloc _ _ _))) (omega arith) h) c.malloc.ensures
 
 pub returns-in-Free : goal.returns-in-Free
-returns-in-Free c = stmt_as c.args.stmt.now (layer.Free c.in-Free.pointer) (c.in-Free.is ∙ sym (rolls-Free _)) (omega
-    arith)
-    c.free.ensures
+returns-in-Free c = stmt_as c.args.stmt.now (layer.Free c.in-Free.pointer) (c.in-Free.is ∙ sym (rolls-Free _))
+    (omega arith) c.free.ensures
 
 pub returns-in-ReturnCall : goal.returns-in-ReturnCall
 returns-in-ReturnCall c = IfOk-weaker c.call-in-ReturnCall.result _ _ (λ step h. stmt_as c.args.stmt.now

@@ -7,16 +7,16 @@ use Rattle.sc_run.proofs.Calling.{begun_blocks}
 use Rattle.sc_run.proofs.Counts.{few_at}
 use Rattle.sc_run.proofs.Whole.{Since}
 use Rattle.sc_run.specs.Numbers.{HasFewVariables}
-use Rattle.sc_run.specs.Weights.{AnotherSuffices, Falls, HasRoom, StepFalls, body_weight, left, now_weight}
+use Rattle.sc_run.specs.Weights.{AnotherSuffices, Falls, NumbersLast, StepFalls, body_weight, left, now_weight}
 
--- a run that goes on stands where it should, and has room
+-- a run that goes on stands where it should, and its numbers last
 pub record Underway (program : ProgramTree) (first : Now) (begun : Seen) (f : Frame) (now : Now) (seen : Seen)
     (work : List Work) (g : Frame) : Type 0 where
   pub since : Since program first begun f now seen work g
-  pub room : HasRoom (now_weight now) seen work
+  pub numbers : NumbersLast (now_weight now) seen work
 
 -- a block more has a number
-pub another_suffices : (now : Now) {seen : Seen} {work : List Work} → HasRoom (now_weight now) seen work →
+pub another_suffices : (now : Now) {seen : Seen} {work : List Work} → NumbersLast (now_weight now) seen work →
     AnotherSuffices seen
 another_suffices (Run' stmts) h = λ comp. omega (arith, h.numbers comp)
 another_suffices (Leave exit) h = λ comp. omega (arith, h.numbers comp)
@@ -32,9 +32,9 @@ module _ {cost : ℕ} {seen later : Seen} {work last : List Work} {step : Step} 
   fallen : Falls cost seen work (now_weight next) later last
   fallen = falls.falls_to next goes
 
-  -- there is room after a step
-  pub room_after : HasRoom cost seen work → HasRoom (now_weight next) later last
-  room_after h =
+  -- they last after a step
+  pub lasts_after : NumbersLast cost seen work → NumbersLast (now_weight next) later last
+  lasts_after h =
       record {
         numbers = λ comp. omega (arith, h.numbers comp, fallen.lengths comp);
         light = fallen.light;
@@ -44,12 +44,12 @@ module _ {cost : ℕ} {seen later : Seen} {work last : List Work} {step : Step} 
   pub less_after : left (now_weight next) later last < left cost seen work
   less_after = fallen.less
 
--- there is room at the start
-pub room_at_first : (program : ProgramTree) → IsWellTyped program → {callee : Callee} {before after : Seen}
+-- they last at the start
+pub lasts_at_first : (program : ProgramTree) → IsWellTyped program → {callee : Callee} {before after : Seen}
     {f : Frame} → before.memory ≡ globals_of program.sections → before.turns < 2 ^ 32 →
     HasFewVariables callee.structs.now callee.function.now → Begun callee [] before after f →
-    HasRoom (body_weight f.function.now) after []
-room_at_first program typed {before} is below few b =
+    NumbersLast (body_weight f.function.now) after []
+lasts_at_first program typed {before} is below few b =
     let short = ap (λ x. body_weight x.now) b.function in
     record {
       numbers = λ comp. omega (
