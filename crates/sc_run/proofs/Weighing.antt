@@ -116,11 +116,11 @@ at_most_then : {a b c : ℕ} → a ≤ b → b ≤ c → a ≤ c
 at_most_then x y = omega (arith, x, y)
 
 -- no more is left, and what was made is less
-pub record Heavier (cost : ℕ) (before : Seen) (work : List Work) (rest : ℕ) (after : Seen) (later : List Work) : Type 0
-  where
-    pub less : left rest after later ≤ left cost before work
-    pub lengths : (comp : ℕ) →
-        length (after.memory comp) + left rest after later ≤ length (before.memory comp) + left cost before work
+pub record Heavier (cost : ℕ) (before : Seen) (work : List Work) (rest : ℕ) (after : Seen) (later : List Work)
+    : Type 0 where
+  pub less : left rest after later ≤ left cost before work
+  pub lengths : (comp : ℕ) →
+      length (after.memory comp) + left rest after later ≤ length (before.memory comp) + left cost before work
 
 -- a step that goes on, or ends the run
 pub goes_now : {cost : ℕ} {before after : Seen} {work later : List Work} {now : Now} →

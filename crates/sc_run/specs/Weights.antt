@@ -78,13 +78,13 @@ abbrev pub AnotherSuffices : Seen → Type 0
 AnotherSuffices seen = (comp : ℕ) → length (seen.memory comp) + most_nodes * seen.turns < 2 ^ 63
 
 -- less is left to do, by no less than the blocks that were made
-pub record Falls (cost : ℕ) (before : Seen) (work : List Work) (rest : ℕ) (after : Seen) (later : List Work) : Type 0
-  where
-    pub less : left rest after later < left cost before work
-    pub lengths : (comp : ℕ) →
-        length (after.memory comp) + left rest after later ≤ length (before.memory comp) + left cost before work
-    pub light : rest ≤ most_weight
-    pub waiting : AreLight later
+pub record Falls (cost : ℕ) (before : Seen) (work : List Work) (rest : ℕ) (after : Seen) (later : List Work)
+    : Type 0 where
+  pub less : left rest after later < left cost before work
+  pub lengths : (comp : ℕ) →
+      length (after.memory comp) + left rest after later ≤ length (before.memory comp) + left cost before work
+  pub light : rest ≤ most_weight
+  pub waiting : AreLight later
 
 -- numbers suffice for the blocks that are made in what is left to do
 pub record NumbersLast (cost : ℕ) (seen : Seen) (work : List Work) : Type 0 where
