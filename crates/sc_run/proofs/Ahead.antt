@@ -7,15 +7,21 @@ use Rattle.sc_run.proofs.Common.{block_acts, choose, drop, drop-step, drop_all, 
 use Rattle.sc_run.proofs.Common.{here_of, if◌then◌else◌, in_body, in_loop, in_order, in_round, is_true, leave, left_at}
 use Rattle.sc_run.proofs.Common.{length, length-drop, loop_acts, next_acts, refl, resume, reverse, roll-TypedStmtKind}
 use Rattle.sc_run.proofs.Common.{seen_of, stmt_acts, store_at, stored, subst, suc, sym, take, take_all, true, way_in, ℕ}
-use Rattle.sc_run.proofs.Common.{◌+◌, ◌-◌, ◌<◌, ◌==◌, ◌∙◌, ◌∷◌, ◌≡◌, ◌≤◌}
+use Rattle.sc_run.proofs.Common.{◌+◌, ◌-◌, ◌<◌, ◌==◌, ◌∙◌, ◌∷◌, ◌≡◌, ◌≤◌, Body as Body', First, Leave, Rest, ◌++◌}
 use Rattle.sc_run.specs.declared.work.Position.{Position}
-use Rattle.sc_core.specs.declared.stmt.TypedStmtKind.TheOpen as layer
-use Rattle.sc_core.specs.declared.value.Want.TheVariants as want
 use Rattle.sc_run_value.specs.Assigning.{AssignedIf, Holding}
 use Rattle.sc_run.proofs.Coming.{computed_comes, stored_ok, then_goes, turn_comes, usual, with_memory}
-use Rattle.sc_run.proofs.Looping.{round_is, steps_as, steps_later, tested, Follows}
+use Rattle.sc_run.proofs.Looping.{round_is, steps_as, steps_later, steps_on, steps_wait, steps_weaken, tested, Follows}
 use Rattle.sc_run.proofs.Stating.{followed_by_nothing, first_and_rest, stmt_is}
 use Rattle.sc_run.proofs.Blank.{way_same}
+use Rattle.sc_run.proofs.Weighing.{block_split, eased, goes_now, is_over, light_later, lighter, place_light}
+use Rattle.sc_run.proofs.Weighing.{rounds_paid, turns_taken}
+use Rattle.sc_run.specs.Prelude.{ComesMaking}
+use Rattle.sc_run.specs.Weights.{IsLess, block_nodes, block_weight, leaf_weight, loop_weight, place_weight, weight}
+use Rattle.std.proofs.Common.{◌*◌}
+use Rattle.sc_core.specs.declared.stmt.TypedStmtKind.TheOpen as layer
+use Rattle.sc_core.specs.declared.value.Want.TheVariants as want
+use Rattle.sc_run.specs.declared.work.Leaving.TheVariants as leaving
 
 at_most : (a b c : ℕ) → b ≤ a → c ≤ b → c ≤ a
 at_most a b c x y = omega (arith, x, y)
@@ -28,7 +34,8 @@ turns_fall c d p x y = omega (arith, p, x, y)
 
 -- nothing is done
 pub stays_so : {seen : Seen} {p : Doing} → Passes seen seen p p
-stays_so = record { passes = λ n s is_seen. (s, is_seen, refl); fewer = omega arith }
+stays_so =
+    record { passes = λ n s is_seen. (s, is_seen, refl); fewer = omega arith; lengths = λ comp. omega arith }
 
 pub unchanged : {before after : Seen} {p : Doing} → after ≡ before → Passes before after p p
 unchanged {before} {p} is = subst (λ x. Passes before x p p) (sym is) stays_so
@@ -43,13 +50,18 @@ then_passes h k =
           let b = k.passes n a.0 a.1 in
           (b.0, b.1, a.2 ∙ b.2);
       fewer = at_most _ _ _ h.fewer k.fewer;
+      lengths = λ comp. at_most _ _ _ (h.lengths comp) (k.lengths comp);
     }
 
 -- the same, stated otherwise
 pub passes_as : {before after : Seen} {p q r : Doing} → ((n : ℕ) (s : State) → p n s ≡ q n s) →
     Passes before after q r → Passes before after p r
 passes_as same h =
-    record { passes = λ n s is_seen. let a = h.passes n s is_seen in (a.0, a.1, same n s ∙ a.2); fewer = h.fewer }
+    record {
+      passes = λ n s is_seen. let a = h.passes n s is_seen in (a.0, a.1, same n s ∙ a.2);
+      fewer = h.fewer;
+      lengths = h.lengths;
+    }
 
 pub passes_if_as : (b : Bool) (before after : Seen) (p q r : Doing) → ((n : ℕ) (s : State) → p n s ≡ q n s) →
     PassesIf b before after q r → PassesIf b before after p r
@@ -65,7 +77,11 @@ reached_at after v (Stopped end t) go c = elim c [ ]
 pub passes_by : {V : Type 0} {before after : Seen} {v : V} {x : State → Piece V} (go : Follows V) →
     Comes before after (Ok v) x → Passes before after (λ n s. and_then (x s) (go n)) (λ n s. go n v s)
 passes_by {after} {v} {x} go h =
-    record { passes = λ n s is_seen. reached_at after v (x s) (go n) (h.comes s is_seen); fewer = h.fewer }
+    record {
+      passes = λ n s is_seen. reached_at after v (x s) (go n) (h.comes s is_seen);
+      fewer = h.fewer;
+      lengths = λ comp. omega (arith, h.lengths comp);
+    }
 
 ended_at : (after : Seen) (y : Piece (Left (Unit {0}))) → CameTo usual after y →
     (t : State) × (seen_of t ≡ after) × (y ≡ leave Next tt t)
@@ -76,7 +92,11 @@ ended_at after (Stopped end t) c = elim c [ ]
 pub passes_to_end : {before after : Seen} {x : State → Piece (Left (Unit {0}))} → Comes before after usual x →
     Passes before after (λ n s. x s) ended_so
 passes_to_end {after} {x} h =
-    record { passes = λ n s is_seen. ended_at after (x s) (h.comes s is_seen); fewer = h.fewer }
+    record {
+      passes = λ n s is_seen. ended_at after (x s) (h.comes s is_seen);
+      fewer = h.fewer;
+      lengths = λ comp. omega (arith, h.lengths comp);
+    }
 
 -- with something that follows
 pub passes_follow : {before after : Seen} {p q : Doing} (route : Exit → Route) (go : ℕ → Acts) →
@@ -88,6 +108,7 @@ passes_follow route go h =
           let a = h.passes n s is_seen in
           (a.0, a.1, ap (λ y. follow route y (go n)) a.2);
       fewer = h.fewer;
+      lengths = h.lengths;
     }
 
 module _ {program : ProgramTree} {before middle : Seen} {work : List Work} {f : Frame} {p q : Doing} where
@@ -104,9 +125,37 @@ module _ {program : ProgramTree} {before middle : Seen} {work : List Work} {f : 
       }
 
   -- a step from where the run got to
-  pub steps_after : {step : Step} {after : Seen} {later : List Work} {g : Frame} → Passes before middle p q →
-      Steps program middle work f q step after later g → Steps program before work f p step after later g
-  steps_after h k = record { stands = λ whole st. k.stands whole (passed h st) }
+  pub steps_after : {cost : ℕ} {step : Step} {after : Seen} {later : List Work} {g : Frame} → Passes before middle p q →
+      Steps program cost middle work f q step after later g → Steps program cost before work f p step after later g
+  steps_after {step} h k =
+      record {
+        stands = λ whole st. k.stands whole (passed h st);
+        falls = λ light waiting. eased (turns_taken work h.fewer h.lengths) (k.falls light waiting);
+      }
+
+module _ {program : ProgramTree} {before after : Seen} {work : List Work} {f : Frame} where
+  -- a piece that came to its end, and made a block at most
+  pub step_done : {made : ℕ} {x : State → Piece (Left (Unit {0}))} → made ≤ 1 →
+      ComesMaking made before after usual x →
+      Steps program leaf_weight before work f (λ n s. x s) (Go (Leave leaving.Next)) after work f
+  step_done {made} {x} le c =
+      record {
+        stands = λ whole st.
+            let a = ended_at after (x st.state) (c.comes st.state st.is_seen) in
+            record {
+              open_calls = st.open_calls;
+              state = a.0;
+              is_seen = a.1;
+              enough = enough_left _ (ap (λ x. x.turns) st.is_seen) (ap (λ x. x.turns) a.1) c.fewer st.enough;
+              rest = ap (λ x. (resume program st.open_calls (reverse work) f x).behaviour) (sym a.2) ∙ st.rest;
+            };
+        falls = λ light waiting. goes_now (record {
+          less = omega (arith, c.fewer);
+          lengths = λ comp. omega (arith, le, c.fewer, c.lengths comp);
+          light = omega arith;
+          waiting = waiting;
+        });
+      }
 
 -- an assignment
 module _ (f : Frame) (place value : TypedExpr) (line : ℕ) (seen : Seen) (memory : Memory) where
@@ -242,6 +291,21 @@ module _ (program : ProgramTree) (f : Frame) where
         (loop_acts program n f l)))
     body_done at h k = then_passes h (passes_follow in_loop _ k)
 
+    -- the rest of a round, while the loop waits
+    pub round_left : {before middle after : Seen} {work later last : List Work} (at : Position) {step : Step}
+        {g : Frame} → IsLess l.body.now at → middle.turns < before.turns →
+        Passes before middle loop_by (in_round program f l (Some at)) → later ≡ work ++ Body' l ∷ [] →
+        Steps program (place_weight l.body.now at) middle later f (left_at program f l.body.now (Some at)) step after
+        last g → Steps program (loop_weight l) before work f loop_by step after last g
+    round_left {before} {middle} {work} at {step} less fewer h is k =
+        record {
+          stands = (steps_after h (steps_wait {cost = place_weight l.body.now at + weight (Body' l)} (Body' l) is
+              (omega arith) (λ n s. refl) k)).stands;
+          falls = λ light waiting. eased (rounds_paid l at less fewer h.lengths is light)
+              (k.falls (omega (arith, light, place_light l.body.now at less))
+              (light_later work (Body' l) is waiting (lighter (First l) light)));
+        }
+
     -- the loop stands after its body
     pub after_body : {before middle after : Seen} (none : Bor (List TypedStmt)) →
         Passes before middle loop_by (in_body program f l l.body.now) →
@@ -266,37 +330,85 @@ module _ (program : ProgramTree) (f : Frame) where
   -- nothing follows the part
   pub part_last : {before : Seen} {work : List Work} (stmts : List TypedStmt) {rest : List TypedStmt} (at : Position)
       {b : Bool} → rest ≡ take (length stmts - at.count) (drop at.count stmts) → b ≡ (length rest == 0) → b ≡ true →
-      Steps program before work f (left_at program f stmts (Some at)) (Go (Run' at.part)) before work f
-  part_last stmts {rest} at same none empty = steps_later (λ n s. ap
+      Steps program (place_weight stmts at) before work f (left_at program f stmts (Some at)) (Go (Run' at.part))
+      before work f
+  part_last stmts {rest} at same none empty = steps_later (omega arith) (λ n s. ap
       (λ xs. follow in_order (block_by at.part.now n s) (block_acts program n f xs))
       (sym (same ∙ rest_at _ stmts) ∙ none_in rest none empty) ∙ followed_by_nothing _)
 
+  -- there is no part
+  pub rest_only : {before : Seen} {work : List Work} (stmts : List TypedStmt) (rest : Bor (List TypedStmt))
+      (at : Position) → rest.now ≡ take (length stmts - at.count) (drop at.count stmts) → at.part.now ≡ [] →
+      Steps program (place_weight stmts at) before work f (left_at program f stmts (Some at)) (Go (Run' rest))
+      before work f
+  rest_only stmts rest at same empty =
+      steps_later (omega (arith, ap (λ xs. block_nodes xs) (same ∙ rest_at at.count stmts)))
+      (λ n s. no_part stmts at empty n s ∙ ap (λ xs. block_by xs n s) (sym (same ∙ rest_at at.count stmts)))
+
+  -- what follows the part waits for it
+  pub rest_waits : {before : Seen} {work later : List Work} (stmts : List TypedStmt) (rest : Bor (List TypedStmt))
+      (at : Position) → rest.now ≡ take (length stmts - at.count) (drop at.count stmts) →
+      later ≡ work ++ Rest rest ∷ [] →
+      Steps program (place_weight stmts at) before work f (left_at program f stmts (Some at)) (Go (Run' at.part))
+      before later f
+  rest_waits {work} stmts rest at same pushed =
+      let is = same ∙ rest_at at.count stmts in
+      steps_wait (Rest rest) pushed
+      (nodes_fit (block_nodes at.part.now) (ap (λ xs. block_nodes xs) is))
+      (λ n s. ap (λ xs. resume program n (reverse work) f
+      (follow in_order (block_by at.part.now n s) (block_acts program n f xs))) (sym is))
+      (steps_later {cost = 3 + block_weight at.part.now} (omega arith) (λ n s. refl)) where
+        nodes_fit : (p : ℕ) {r d : ℕ} → r ≡ d → (3 + (2 + 8 * p)) + (2 + 8 * r) ≤ 7 + 8 * (p + d)
+        nodes_fit p is = omega (arith, is)
+
   -- the statements, stated otherwise
-  pub block_as : {before after : Seen} {work later : List Work} {step : Step} {g : Frame}
+  pub block_as : {cost : ℕ} {before after : Seen} {work later : List Work} {step : Step} {g : Frame}
       (stmts body : List TypedStmt) → stmts ≡ body →
-      Steps program before work f (block_by stmts) step after later g →
-      Steps program before work f (block_by body) step after later g
+      Steps program cost before work f (block_by stmts) step after later g →
+      Steps program cost before work f (block_by body) step after later g
   block_as stmts body same h = steps_as (λ n s. ap (λ xs. block_by xs n s) (sym same)) h
 
   pub rest_after : {before middle after : Seen} {work later : List Work} (stmts : List TypedStmt) (at : Position)
       {step : Step} {g : Frame} → at.part.now ≡ [] →
       Passes before middle (block_by stmts) (left_at program f stmts (Some at)) →
-      Steps program middle work f (block_by (take (length stmts - at.count) (drop at.count stmts))) step after later g →
-      Steps program before work f (block_by stmts) step after later g
+      Steps program (block_weight (take (length stmts - at.count) (drop at.count stmts))) middle work f
+      (block_by (take (length stmts - at.count) (drop at.count stmts))) step after later g →
+      Steps program (block_weight stmts) before work f (block_by stmts) step after later g
   rest_after stmts at empty h k = steps_after h (steps_as
-      (λ n s. no_part stmts at empty n s ∙ ap (λ xs. block_by xs n s) (sym (rest_at _ stmts))) k)
+      (λ n s. no_part stmts at empty n s ∙ ap (λ xs. block_by xs n s) (sym (rest_at _ stmts))) (steps_weaken
+      (omega (arith, ap (λ xs. block_nodes xs) (rest_at at.count stmts), block_split at.count stmts)) k))
 
   -- control leaves the function after the statements that were done
   pub left_after : {before middle after : Seen} {work later : List Work} (stmts : List TypedStmt) (at : Position)
       (exit : Exit) {step : Step} {g : Frame} → at.part.now ≡ [] →
       Passes before middle (block_by stmts) (left_at program f stmts (Some at)) →
       Passes middle middle (block_by (take (length stmts - at.count) (drop at.count stmts))) (left_by exit) →
-      Steps program middle work f (left_by exit) step after later g →
-      Steps program before work f (block_by stmts) step after later g
-  left_after stmts at exit empty h left k = rest_after stmts at empty h (steps_after left k)
+      Steps program 1 middle work f (left_by exit) step after later g →
+      Steps program (block_weight stmts) before work f (block_by stmts) step after later g
+  left_after stmts at exit empty h left k =
+      rest_after stmts at empty h (steps_after left (steps_weaken (omega arith) k))
+
+-- the statements that a condition chose
+pub choose_goes : (program : ProgramTree) (f : Frame) (first second : Bor (List TypedStmt)) {before : Seen}
+    {work : List Work} {p : State → Piece Value} {v : Value} {b : Bool} → Comes before before (Ok v) p → is_true v ≡ b →
+    Steps program (3 + 8 * (block_nodes first.now + block_nodes second.now)) before work f
+    (λ n s. and_then (p s) (λ v s. choose v (block_acts program n f first.now tt s)
+    (block_acts program n f second.now tt s)))
+    (Go (if b then Run' first else Run' second)) before work f
+choose_goes program f first second {before} {work} {v} {b} c is = steps_on
+    (λ n v s. choose v (block_acts program n f first.now tt s) (block_acts program n f second.now tt s)) c
+    (chosen_so b is) where
+      chosen_so : (b : Bool) → is_true v ≡ b → Steps program
+          (3 + 8 * (block_nodes first.now + block_nodes second.now)) before work f
+          (λ n s. choose v (block_acts program n f first.now tt s) (block_acts program n f second.now tt s))
+          (Go (if b then Run' first else Run' second)) before work f
+      chosen_so true is = steps_later (omega arith) (λ n s. ap (λ b. if b then block_acts program n f first.now tt s
+          else block_acts program n f second.now tt s) is)
+      chosen_so false is = steps_later (omega arith) (λ n s. ap (λ b. if b then block_acts program n f first.now tt s
+          else block_acts program n f second.now tt s) is)
 
 -- the end of a run, whatever waits
-pub stops_anywhere : {program : ProgramTree} {before after : Seen} {work later last : List Work} {f g h : Frame}
-    {p : Doing} {end : RunEnd} → Steps program before work f p (Stop end) after later g →
-    Steps program before work f p (Stop end) after last h
-stops_anywhere steps = record { stands = steps.stands }
+pub stops_anywhere : {program : ProgramTree} {cost : ℕ} {before after : Seen} {work later last : List Work}
+    {f g h : Frame} {p : Doing} {end : RunEnd} → Steps program cost before work f p (Stop end) after later g →
+    Steps program cost before work f p (Stop end) after last h
+stops_anywhere steps = record { stands = steps.stands; falls = λ light waiting. is_over }

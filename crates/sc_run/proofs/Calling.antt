@@ -8,20 +8,55 @@ use Rattle.sc_run.proofs.Common.{emit_event, emitted_call, emitted_return, ended
 use Rattle.sc_run.proofs.Common.{function_in, function_of, here_of, leave, left_by, length, map, pos, refl, result_goes}
 use Rattle.sc_run.proofs.Common.{resume, returned, reverse, run_in, seen_of, store_at, subst, suc, sym, then_then, turn}
 use Rattle.sc_run.proofs.Common.{variable_count, variables, way_in, with_blocks, with_variables, word_crossing, word_in}
-use Rattle.sc_run.proofs.Common.{zero, ℕ, ◌++◌, ◌∙◌, ◌∷◌, ◌≡◌, ◌≤◌}
+use Rattle.sc_run.proofs.Common.{zero, ℕ, ◌++◌, ◌∙◌, ◌∷◌, ◌≡◌, ◌≤◌, Go, Leave, length-append, ◌+◌}
 use Rattle.sc_run.proofs.Blank.{left_same, blank_more, blank_new, length_same}
-use Rattle.sc_run.proofs.Coming.{with_memory, seen_with, blocks_seen}
+use Rattle.sc_run.proofs.Coming.{with_memory, seen_with, blocks_seen, blocks_changed, usual}
 use Rattle.sc_run.proofs.Looping.{resume_stopped, newest_first, step_stops, step_ends, steps_as}
+use Rattle.sc_run.proofs.Ahead.{step_done}
+use Rattle.sc_run.proofs.Lengths.{length_blocks_for, length_cleared}
+use Rattle.sc_run.proofs.Weighing.{Heavier, all_weights, eased, is_over, light_earlier, light_later, taken_up}
+use Rattle.sc_run.proofs.Weighing.{turns_taken}
+use Rattle.sc_core.specs.Prelude.{most_nodes}
+use Rattle.sc_run.specs.Numbers.{HasFewVariables}
+use Rattle.sc_run.specs.Weights.{body_weight, leaf_weight}
+use Rattle.sc_run.specs.declared.work.Leaving.TheVariants as exits
 
 -- a result that can't be stored
-pub unstored : {program : ProgramTree} {before after : Seen} {work : List Work} {f : Frame} {to : To}
+pub unstored : {program : ProgramTree} {cost : ℕ} {before after : Seen} {work : List Work} {f : Frame} {to : To}
     {result : Option Value} (place : Bor TypedExpr) (line : ℕ) {v : Value} {end : RunEnd} → to ≡ Place place line →
     result ≡ Some v → Comes before after (Err end) (store_at (here_of f.scope) (way_in f place.now) v line tt) →
-    Steps program before work f (λ n s. result_goes program f to result s) (Stop end) after work f
-unstored {program} {before} {after} {work} {f} {result} place line {end} is has c =
-    subst (λ x. Steps program before work f (λ n s. result_goes program f x result s) (Stop end) after work f) (sym is)
-    (subst (λ x. Steps program before work f (λ n s. result_goes program f (Place place line) x s) (Stop end) after work
-    f) (sym has) (step_ends c))
+    Steps program cost before work f (λ n s. result_goes program f to result s) (Stop end) after work f
+unstored {program} {cost} {before} {after} {work} {f} {result} place line {end} is has c =
+    subst (λ x. Steps program cost before work f (λ n s. result_goes program f x result s) (Stop end) after work f)
+    (sym is) (subst (λ x. Steps program cost before work f (λ n s. result_goes program f (Place place line) x s)
+    (Stop end) after work f) (sym has) (step_ends c))
+
+-- a result that is stored
+pub is_stored : {program : ProgramTree} {before after : Seen} {work : List Work} {f : Frame} {to : To}
+    {result : Option Value} (place : Bor TypedExpr) (line : ℕ) {v : Value} → to ≡ Place place line →
+    result ≡ Some v → Comes before after usual (store_at (here_of f.scope) (way_in f place.now) v line tt) →
+    Steps program leaf_weight before work f (λ n s. result_goes program f to result s) (Go (Leave exits.Next))
+    after work f
+is_stored {program} {before} {after} {work} {f} {result} place line is has c =
+    subst (λ x. Steps program leaf_weight before work f (λ n s. result_goes program f x result s)
+    (Go (Leave exits.Next)) after work f) (sym is)
+    (subst (λ x. Steps program leaf_weight before work f (λ n s. result_goes program f (Place place line) x s)
+    (Go (Leave exits.Next)) after work f) (sym has) (step_done (omega arith) c))
+
+-- the variables of a call are few blocks
+pub begun_blocks : {callee : Callee} {args : List Value} {before after : Seen} {f : Frame} →
+    Begun callee args before after f → HasFewVariables callee.structs.now callee.function.now → (comp : ℕ) →
+    length (after.memory comp) ≤ length (before.memory comp) + most_nodes
+begun_blocks {callee} {args} {before} {after} b few comp =
+    let sizes = variables callee.structs.now callee.function.now in
+    subst (λ m. length (m comp) ≤ length (before.memory comp) + most_nodes) (sym (ap (λ x. x.memory) b.seen))
+    (blocks_changed callee.comp.now (before.memory callee.comp.now ++ blocks_for sizes args) before.memory most_nodes
+    (omega (
+      arith,
+      few.few,
+      length-append (before.memory callee.comp.now) (blocks_for sizes args),
+      length_blocks_for sizes args,
+    )) comp)
 
 module _ (program : ProgramTree) (caller : Frame) (callee : Callee) (args : List Value) (to : To) where
   abbrev pub called_function : Function
@@ -167,21 +202,64 @@ module _ (program : ProgramTree) (caller : Frame) (callee : Callee) (args : List
                 less x y z = omega (arith, x, y, z)
           by_turn (suc m) (Stopped end t) e le rest = elim e [ ]
 
+  emitted_turns : (crossing : Option ℕ) (mid : Seen) →
+      (emitted_call caller callee args crossing mid).turns ≡ mid.turns
+  emitted_turns None mid = refl
+  emitted_turns (Some index) mid = refl
+
+  emitted_memory : (crossing : Option ℕ) (mid : Seen) →
+      (emitted_call caller callee args crossing mid).memory ≡ mid.memory
+  emitted_memory None mid = refl
+  emitted_memory (Some index) mid = refl
+
+  -- a turn pays for a call
+  call_paid : (crossing : Option ℕ) {work later : List Work} {before mid emitted begun_to : Seen} {g : Frame} →
+      HasFewVariables callee.structs.now callee.function.now → Comes before mid (Ok tt) turn →
+      before.turns ≡ suc mid.turns → emitted ≡ emitted_call caller callee args crossing mid →
+      Begun callee args emitted begun_to g → later ≡ work ++ Caller caller to crossing ∷ [] →
+      Heavier leaf_weight before work (body_weight g.function.now) begun_to later
+  call_paid crossing {work} {later} {before} {mid} {emitted} {begun_to} {g} few c taken emits_trace b pushed =
+      let waits = all_weights work (Caller caller to crossing) pushed in
+      let short = ap (λ x. body_weight x.now) b.function in
+      let turns = ap (λ x. x.turns) b.seen ∙ ap (λ x. x.turns) emits_trace ∙ emitted_turns crossing mid in
+      let same = ap (λ x. x.memory) emits_trace ∙ emitted_memory crossing mid in
+      record {
+        less = omega (arith, waits, short, turns, taken, few.short);
+        lengths = λ comp. omega (
+          arith,
+          waits,
+          short,
+          turns,
+          taken,
+          few.short,
+          c.lengths comp,
+          ap (λ m. length (m comp)) same,
+          begun_blocks b few comp,
+        );
+      }
+
   pub enter_steps : (crossing : Option ℕ) {work later last_work : List Work} {before mid emitted begun_to last : Seen}
-      {g last_frame : Frame} {step : Step} → Found → Comes before mid (Ok tt) turn → before.turns ≡ suc mid.turns →
+      {g last_frame : Frame} {step : Step} → HasFewVariables callee.structs.now callee.function.now → Found →
+      Comes before mid (Ok tt) turn → before.turns ≡ suc mid.turns →
       emitted ≡ emitted_call caller callee args crossing mid → Begun callee args emitted begun_to g →
       later ≡ work ++ Caller caller to crossing ∷ [] →
-      Steps program begun_to later g (λ n s. body_acts program n g tt s) step last last_work last_frame →
-      Steps program before work caller (tries crossing) step last last_work last_frame
-  enter_steps crossing {work} {later} {mid} {begun_to} {g} there c taken emits_trace b pushed h =
+      Steps program (body_weight g.function.now) begun_to later g (λ n s. body_acts program n g tt s) step last
+      last_work last_frame →
+      Steps program leaf_weight before work caller (tries crossing) step last last_work last_frame
+  enter_steps crossing {work} {later} {before} {mid} {emitted} {begun_to} {g} {step} few there c taken emits_trace b
+      pushed h =
       record {
+        falls = λ light waiting. eased (call_paid crossing few c taken emits_trace b pushed)
+            (h.falls (omega (arith, few.short, ap (λ x. body_weight x.now) b.function))
+            (light_later work (Caller caller to crossing) pushed waiting (omega arith)));
         stands = λ whole standing. h.stands whole (entered_from whole work later _ mid _ g there
             (subst (λ x. Begun callee args x begun_to g) emits_trace b) pushed taken c standing);
       }
 
   -- a call that has no turn left
-  pub enter_stops : (crossing : Option ℕ) {work : List Work} {before after : Seen} {end : RunEnd} →
-      Comes before after (Err end) turn → Steps program before work caller (tries crossing) (Stop end) after work caller
+  pub enter_stops : {cost : ℕ} (crossing : Option ℕ) {work : List Work} {before after : Seen} {end : RunEnd} →
+      Comes before after (Err end) turn →
+      Steps program cost before work caller (tries crossing) (Stop end) after work caller
   enter_stops crossing c = steps_as (λ n s. then_then (turn s) (λ _ s. from_call _ n s) (result_goes program caller to))
       (step_stops (λ n u s. and_then (from_call _ n s) (result_goes program caller to)) c)
 
@@ -257,20 +335,53 @@ module _ (program : ProgramTree) (f : Frame) (exit : Exit) where
           more a b z = omega (arith, z)
 
   module _ (before : Seen) where
-    pub return_stops : {work : List Work} (caller : Frame) (to : To) (crossing : Option ℕ) {end : RunEnd} →
+    returned_turns : (caller : Frame) (crossing : Option ℕ) (v : Option Value) (ended : Seen) →
+        (emitted_return program caller f crossing v ended).turns ≡ ended.turns
+    returned_turns caller None v ended = refl
+    returned_turns caller (Some index) v ended = refl
+
+    returned_memory : (caller : Frame) (crossing : Option ℕ) (v : Option Value) (ended : Seen) →
+        (emitted_return program caller f crossing v ended).memory ≡ ended.memory
+    returned_memory caller None v ended = refl
+    returned_memory caller (Some index) v ended = refl
+
+    call_over : {cost : ℕ} (work : List Work) (caller : Frame) (crossing : Option ℕ) (v : Option Value)
+        {ended emitted : Seen} → ended ≡ left_by f before →
+        emitted ≡ emitted_return program caller f crossing v ended → Heavier cost before work cost emitted work
+    call_over work caller crossing v {ended} {emitted} ends emits_trace =
+        let first = (here_of f.scope).first in
+        let turns = ap (λ x. x.turns) emits_trace ∙ returned_turns caller crossing v ended ∙ ap (λ x. x.turns) ends in
+        let same = ap (λ x. x.memory) emits_trace ∙ returned_memory caller crossing v ended ∙
+        ap (λ x. x.memory) ends in
+        turns_taken work (omega (arith, turns)) (λ comp. omega (
+          arith,
+          ap (λ m. length (m comp)) same,
+          blocks_changed f.scope.comp.now (cleared first (variable_count f) (before.memory f.scope.comp.now))
+              before.memory 0 (omega (
+                arith,
+                length_cleared first (variable_count f) (before.memory f.scope.comp.now),
+              )) comp,
+        ))
+
+    pub return_stops : {cost : ℕ} {work : List Work} (caller : Frame) (to : To) (crossing : Option ℕ) {end : RunEnd} →
         ClosedBy program f exit (Err end) →
-        Steps program before (work ++ Caller caller to crossing ∷ []) f (λ n s. leaving s) (Stop end) before work f
+        Steps program cost before (work ++ Caller caller to crossing ∷ []) f (λ n s. leaving s) (Stop end) before work f
     return_stops {work} caller to crossing {end} is =
-        record { stands = λ whole h. call_ends whole before work caller to _ end is h }
+        record
+        { stands = λ whole h. call_ends whole before work caller to _ end is h; falls = λ light waiting. is_over }
 
     pub return_steps : {work : List Work} {caller : Frame} (to : To) (crossing : Option ℕ) (v : Option Value)
         {back : Option Value} {ended emitted after : Seen} {step : Step} → ClosedBy program f exit (Ok v) →
         ended ≡ left_by f before → back ≡ back_value program f crossing v →
         emitted ≡ emitted_return program caller f crossing v ended →
-        Steps program emitted work caller (λ n s. result_goes program caller to back s) step after work caller →
-        Steps program before (work ++ Caller caller to crossing ∷ []) f (λ n s. leaving s) step after work caller
-    return_steps {work} {caller} to crossing v {back} is ends gives emits_trace h =
+        Steps program leaf_weight emitted work caller (λ n s. result_goes program caller to back s) step
+        after work caller →
+        Steps program 1 before (work ++ Caller caller to crossing ∷ []) f (λ n s. leaving s) step after work caller
+    return_steps {work} {caller} to crossing v {back} {ended} {emitted} {step} is ends gives emits_trace h =
         record {
+          falls = λ light waiting. eased (taken_up work (Caller caller to crossing) refl before (omega arith))
+              (eased (call_over work caller crossing v ends emits_trace)
+              (h.falls (omega arith) (light_earlier work (Caller caller to crossing) refl waiting)));
           stands = λ whole standing. h.stands whole
               (subst (λ x. Standing program whole x work caller (λ n s. result_goes program caller to back s))
               (sym (emits_trace ∙ ap (emitted_return program caller f crossing v) ends))

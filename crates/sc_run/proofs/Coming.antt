@@ -1,17 +1,17 @@
 -- Pieces of a run, one after the other.
-use Rattle.sc_run.proofs.Common.{Blamed, Blocks, Bool, CameTo, Cause, Comes, Err, Here, Left, Memory, Next, None, Ok}
-use Rattle.sc_run.proofs.Common.{Option, Piece, Ptr, Reached, Result, RunEnd, Seen, Some, State, Stopped, TurnsOut}
-use Rattle.sc_run.proofs.Common.{Value, [], and_then, ap, arith, cell_of, computed, false, if◌then◌else◌, leave, length}
-use Rattle.sc_run.proofs.Common.{refl, seen_of, store, stored, subst, suc, sym, true, turn, turn_of, with_blocks}
-use Rattle.sc_run.proofs.Common.{with_exit, zero, ℕ, ◌++◌, ◌==◌, ◌∙◌, ◌∷◌, ◌≡◌}
+use Rattle.sc_run.proofs.Common.{Blamed, Blocks, Bool, CameTo, Cause, Comes, ComesMaking, Err, Here, Left, Memory, Next}
+use Rattle.sc_run.proofs.Common.{None, Ok, Option, Piece, Ptr, Reached, Result, RunEnd, Seen, Some, State, Stopped}
+use Rattle.sc_run.proofs.Common.{TurnsOut, Value, [], and_then, ap, arith, cell_of, computed, false, if◌then◌else◌}
+use Rattle.sc_run.proofs.Common.{leave, length, refl, seen_of, store, stored, subst, suc, sym, true, turn, turn_of}
+use Rattle.sc_run.proofs.Common.{with_blocks, with_exit, zero, ℕ, ◌++◌, ◌+◌, ◌==◌, ◌∙◌, ◌∷◌, ◌≡◌, ◌≤◌}
 use Rattle.std.proofs.Common.{eqb-true}
 use Rattle.std.specs.Option.{option_map}
 use Rattle.sc_zone.specs.Prelude.{least_free}
 use Rattle.sc_blocks.specs.Rows.{free_cell, free_place, with_words}
 use Rattle.sc_core.specs.Prelude.{allocated, allocated_at, placed, released}
 use Rattle.sc_core.specs.declared.value.Value.TheVariants.{Null}
-use Rattle.sc_run.proofs.Blank.{blank, blank_more, blanked, free_same, length_same, memory_with, spans_same}
-use Rattle.sc_run.proofs.Blank.{store_same}
+use Rattle.sc_run.proofs.Blank.{blank, blank_more, blanked, free_same, length_same, memory_with, spans_same, store_same}
+use Rattle.sc_run.proofs.Lengths.{length_free, length_store, length_words}
 
 -- statements that come to their end
 abbrev pub usual : Result (Left (Unit {0})) RunEnd
@@ -51,6 +51,7 @@ module _ {V : Type 0} (here : Here) (line : ℕ) (f : Blocks → Result V Cause)
       record {
         comes = λ s is_seen. computed_ok here line s is_seen (sym (same _) ∙ ap f (blocks_seen s _ is_seen) ∙ sym is);
         fewer = omega arith;
+        lengths = λ comp. omega arith;
       }
 
   pub computed_blamed : {cause : Cause} → Err cause ≡ f (seen.memory here.comp) →
@@ -59,28 +60,65 @@ module _ {V : Type 0} (here : Here) (line : ℕ) (f : Blocks → Result V Cause)
       record {
         comes = λ s is_seen. computed_err here line s is_seen (sym (same _) ∙ ap f (blocks_seen s _ is_seen) ∙ sym is);
         fewer = omega arith;
+        lengths = λ comp. omega arith;
       }
 
 -- nothing follows the end of the run
-pub then_stops : {V W : Type 0} {before after : Seen} {end : RunEnd} {p : State → Piece V} (go : V → State → Piece W) →
-    Comes before after (Err end) p → Comes before after (Err end) (λ s. and_then (p s) go)
+pub then_stops : {V W : Type 0} {made : ℕ} {before after : Seen} {end : RunEnd} {p : State → Piece V}
+    (go : V → State → Piece W) → ComesMaking made before after (Err end) p →
+    ComesMaking made before after (Err end) (λ s. and_then (p s) go)
 then_stops {after} {end} {p} go h = record {
   comes = λ s is_seen. by_piece (p s) (h.comes s is_seen);
   fewer = h.fewer;
+  lengths = h.lengths;
 } where
   by_piece : (q : Piece _) → CameTo (Err end) after q → CameTo (Err end) after (and_then q go)
   by_piece (Reached v s) c = elim c [ ]
   by_piece (Stopped e s) c = c
 
 -- a piece, and what follows it
-pub then_goes : {V W : Type 0} {before middle after : Seen} {v : V} {r : Result W RunEnd} {p : State → Piece V}
-    (go : V → State → Piece W) → Comes before middle (Ok v) p → Comes middle after r (go v) →
-    Comes before after r (λ s. and_then (p s) go)
+pub then_goes : {V W : Type 0} {made : ℕ} {before middle after : Seen} {v : V} {r : Result W RunEnd}
+    {p : State → Piece V} (go : V → State → Piece W) → Comes before middle (Ok v) p →
+    ComesMaking made middle after r (go v) → ComesMaking made before after r (λ s. and_then (p s) go)
 then_goes {middle} {after} {v} {r} {p} go h k =
-    record { comes = λ s is_seen. by_piece (p s) (h.comes s is_seen); fewer = omega (arith, h.fewer, k.fewer) } where
+    record {
+      comes = λ s is_seen. by_piece (p s) (h.comes s is_seen);
+      fewer = omega (arith, h.fewer, k.fewer);
+      lengths = λ comp. omega (arith, h.lengths comp, k.lengths comp);
+    } where
       by_piece : (q : Piece _) → CameTo (Ok v) middle q → CameTo r after (and_then q go)
       by_piece (Reached w s) c = subst (λ x. CameTo r after (go x s)) (sym c.0) (k.comes s c.1)
       by_piece (Stopped e s) c = elim c [ ]
+
+-- a piece that makes a block, and what follows it
+pub made_goes : {V W : Type 0} {before middle after : Seen} {v : V} {r : Result W RunEnd} {p : State → Piece V}
+    (go : V → State → Piece W) → ComesMaking 1 before middle (Ok v) p → Comes middle after r (go v) →
+    ComesMaking 1 before after r (λ s. and_then (p s) go)
+made_goes {middle} {after} {v} {r} {p} go h k =
+    record {
+      comes = λ s is_seen. by_piece (p s) (h.comes s is_seen);
+      fewer = omega (arith, h.fewer, k.fewer);
+      lengths = λ comp. omega (arith, h.lengths comp, k.lengths comp);
+    } where
+      by_piece : (q : Piece _) → CameTo (Ok v) middle q → CameTo r after (and_then q go)
+      by_piece (Reached w s) c = subst (λ x. CameTo r after (go x s)) (sym c.0) (k.comes s c.1)
+      by_piece (Stopped e s) c = elim c [ ]
+
+-- a piece that makes no block
+pub makes_none : {V : Type 0} {before after : Seen} {r : Result V RunEnd} {p : State → Piece V} →
+    Comes before after r p → ComesMaking 1 before after r p
+makes_none h = record { comes = h.comes; fewer = h.fewer; lengths = λ comp. omega (arith, h.lengths comp) }
+
+-- other blocks in a compartment
+changed_in : (b : Bool) (x z : Blocks) (made : ℕ) → (b ≡ true → length x ≤ length z + made) →
+    length (if b then x else z) ≤ length z + made
+changed_in true x z made h = h refl
+changed_in false x z made h = omega arith
+
+pub blocks_changed : (comp : ℕ) (bs : Blocks) (memory : Memory) (made : ℕ) → length bs ≤ length (memory comp) + made →
+    (c : ℕ) → length (with_blocks comp bs memory c) ≤ length (memory c) + made
+blocks_changed comp bs memory made h c = changed_in (c == comp) bs (memory c) made
+    (λ same. subst (λ k. length bs ≤ length (memory k) + made) (sym (eqb-true c comp same)) h)
 
 -- other blocks in the compartment
 module _ (here : Here) (line : ℕ) (seen : Seen) (after : Blocks) where
@@ -105,6 +143,11 @@ module _ (here : Here) (q v : Value) (line : ℕ) (seen : Seen) (after : Blocks)
         comes = λ s is_seen. changed_at here line seen after s _ is_seen
             (sym (store_same _ q v) ∙ ap (λ bs. store bs q v) (blocks_seen s _ is_seen) ∙ is);
         fewer = omega arith;
+        lengths = blocks_changed here.comp after seen.memory 0 (omega (
+          arith,
+          length_store (seen.memory here.comp) q v
+              is,
+        ));
       }
 
 module _ (here : Here) (v : Value) (line : ℕ) (seen : Seen) (after : Blocks) where
@@ -116,6 +159,11 @@ module _ (here : Here) (v : Value) (line : ℕ) (seen : Seen) (after : Blocks) w
         comes = λ s is_seen. changed_at here line seen after s _ is_seen
             (sym (free_same _ v) ∙ ap (λ bs. free_cell bs (cell_of v)) (blocks_seen s _ is_seen) ∙ is);
         fewer = omega arith;
+        lengths = blocks_changed here.comp after seen.memory 0 (omega (
+          arith,
+          length_free (seen.memory here.comp) v
+              is,
+        ));
       }
 
 module _ (here : Here) (line : ℕ) (seen : Seen) (cause : Cause) where
@@ -135,6 +183,7 @@ module _ (here : Here) (q v : Value) (line : ℕ) (seen : Seen) (cause : Cause) 
         comes = λ s is_seen. blamed_at here line seen cause s _ is_seen
             (sym (store_same _ q v) ∙ ap (λ bs. store bs q v) (blocks_seen s _ is_seen) ∙ is);
         fewer = omega arith;
+        lengths = λ comp. omega arith;
       }
 
 module _ (here : Here) (v : Value) (line : ℕ) (seen : Seen) (cause : Cause) where
@@ -145,6 +194,7 @@ module _ (here : Here) (v : Value) (line : ℕ) (seen : Seen) (cause : Cause) wh
         comes = λ s is_seen. blamed_at here line seen cause s _ is_seen
             (sym (free_same _ v) ∙ ap (λ bs. free_cell bs (cell_of v)) (blocks_seen s _ is_seen) ∙ is);
         fewer = omega arith;
+        lengths = λ comp. omega arith;
       }
 
 -- a turn, if there is one
@@ -155,14 +205,22 @@ turned_at {n} s {seen} is_seen is = subst (λ k. CameTo (Ok tt) (record seen { t
 
 pub turn_comes : {n : ℕ} {seen : Seen} → seen.turns ≡ suc n → Comes seen (record seen { turns = n }) (Ok tt) turn
 turn_comes is =
-    record { comes = λ s is_seen. turned_at s is_seen (ap (λ x. x.turns) is_seen ∙ is); fewer = omega (arith, is) }
+    record {
+      comes = λ s is_seen. turned_at s is_seen (ap (λ x. x.turns) is_seen ∙ is);
+      fewer = omega (arith, is);
+      lengths = λ comp. omega arith;
+    }
 
 out_at : (s : State) {seen : Seen} → seen_of s ≡ seen → s.turns ≡ zero → CameTo (Err TurnsOut) seen (turn_of s.turns s)
 out_at s {seen} is_seen is = subst (λ k. CameTo (Err TurnsOut) seen (turn_of k s)) (sym is) (refl, is_seen)
 
 pub turn_stops : {seen : Seen} → seen.turns ≡ zero → Comes seen seen (Err TurnsOut) turn
 turn_stops is =
-    record { comes = λ s is_seen. out_at s is_seen (ap (λ x. x.turns) is_seen ∙ is); fewer = omega arith }
+    record {
+      comes = λ s is_seen. out_at s is_seen (ap (λ x. x.turns) is_seen ∙ is);
+      fewer = omega arith;
+      lengths = λ comp. omega arith;
+    }
 
 pub stored_ok : (here : Here) (q v : Value) (line : ℕ) {seen : Seen} {memory : Memory} →
     store (seen.memory here.comp) q v ≡ Ok (memory here.comp) →
@@ -242,20 +300,23 @@ module _ (here : Here) (words : ℕ) (seen : Seen) where
       ap (λ bs. free_place bs words) (blocks_seen s here.comp is_seen)
 
   allocated_comes : (place : Option ℕ) → free_place (seen.memory here.comp) words ≡ place →
-      Comes seen (with_memory seen (more_blocks place)) (Ok (start_of (new_number place))) (allocated here words)
+      ComesMaking 1 seen (with_memory seen (more_blocks place)) (Ok (start_of (new_number place))) (allocated here
+      words)
   allocated_comes place is =
       record {
         comes = λ s is_seen. subst (λ p. CameTo (Ok (start_of (new_number place)))
             (with_memory seen (more_blocks place)) (placed here words p s)) (sym (found_at s is_seen ∙ is))
             (placed_at s place is_seen);
         fewer = omega arith;
+        lengths = blocks_changed here.comp (with_words words place (seen.memory here.comp)) seen.memory 1
+            (omega (arith, length_words words place (seen.memory here.comp)));
       }
 
   pub allocated_as : {number : Option ℕ} {memory : Memory} →
       number ≡ new_number (free_place (seen.memory here.comp) words) →
       memory ≡ more_blocks (free_place (seen.memory here.comp) words) →
-      Comes seen (with_memory seen memory) (Ok (start_of number)) (allocated here words)
+      ComesMaking 1 seen (with_memory seen memory) (Ok (start_of number)) (allocated here words)
   allocated_as {number} is same =
-      subst (λ m. Comes seen (with_memory seen m) (Ok (start_of number)) (allocated here words)) (sym same)
-      (subst (λ n. Comes seen (with_memory seen (more_blocks (free_place (seen.memory here.comp) words)))
+      subst (λ m. ComesMaking 1 seen (with_memory seen m) (Ok (start_of number)) (allocated here words)) (sym same)
+      (subst (λ n. ComesMaking 1 seen (with_memory seen (more_blocks (free_place (seen.memory here.comp) words)))
       (Ok (start_of n)) (allocated here words)) (sym is) (allocated_comes _ refl))

@@ -3,7 +3,7 @@ use Rattle.sc_run.proofs.Common.{Block, Bool, Cell, List, None, Option, ProgramT
 use Rattle.sc_run.proofs.Common.{TypedParam, TypedSection, TypedStruct, [], ap, arith, cells_of, first_blocks, get_or}
 use Rattle.sc_run.proofs.Common.{global_block, globals_of, is_array, length, length-append, length-map, length-take}
 use Rattle.sc_run.proofs.Common.{map, not, refl, slice_get, struct_zeros, subst, suc, sym, take, true, with_blocks}
-use Rattle.sc_run.proofs.Common.{with_words, zero, zeros_of, ℕ, ◌++◌, ◌+◌, ◌<◌, ◌∙◌, ◌∷◌, ◌≡◌, ◌≤◌}
+use Rattle.sc_run.proofs.Common.{with_words, zero, zeros_of, ℕ, ◌++◌, ◌<◌, ◌∙◌, ◌∷◌, ◌≡◌, ◌≤◌}
 use Rattle.std.proofs.Common.{leb-true, nat_le, ◌^◌}
 use Rattle.std.proofs.lemmas.Bool.{and_from}
 use Rattle.std.specs.List.{list_all}
@@ -103,6 +103,7 @@ module _ {interfaces : Interfaces} {interface : Interface} {section : TypedSecti
           length-map f.params (λ (q : TypedParam). cells_of structs q.ty),
           length-map f.locals (λ (l : TypedLocal). cells_of structs l.ty),
         );
+        short = omega (arith, few, node_count section.functions number f is);
         small = all_both (λ n. nat_le n most_cells) sizes local_sizes
             (small_of {A = TypedParam} (λ q. cells_of structs q.ty) (λ q. passed_fits structs q.ty)
             (param_small structs) f.params (and_first (params_fit structs f.params) _ after_count))
@@ -236,7 +237,7 @@ module _ (program : ProgramTree) (typed : IsWellTyped program) where
   pub sections_small : HaveSmallGlobals program.sections
   sections_small = record { few = few_compartments; small = λ comp section is. globals_small comp is }
 
-  few_at : (comp : ℕ) (section : Option TypedSection) → slice_get program.sections comp ≡ section →
+  pub few_at : (comp : ℕ) (section : Option TypedSection) → slice_get program.sections comp ≡ section →
       length (first_blocks section) ≤ most_nodes
   few_at comp None is = omega arith
   few_at comp (Some section) is =

@@ -44,7 +44,7 @@ module _ (program : ProgramTree) (f : Frame) (to : To) where
   stops_here s = Stopped refusal s
 
   halts : {V : Type 0} {before : Seen} → Comes before before (Err refusal) (stops_here {V = V})
-  halts = record { comes = λ s is_seen. (refl, is_seen); fewer = omega arith }
+  halts = record { comes = λ s is_seen. (refl, is_seen); fewer = omega arith; lengths = λ comp. omega arith }
 
   -- a call that is refused, or made
   abbrev calling : CallTarget → List Value → Doing
@@ -55,21 +55,22 @@ module _ (program : ProgramTree) (f : Frame) (to : To) where
       (if b then called (denotations program) (bodies program n) f.scope.comp.now target args
       s else Stopped refusal s) rg
 
-  pub refused : {before : Seen} {work : List Work} (target : CallTarget) (args : List Value) {end : RunEnd} →
+  pub refused : {cost : ℕ} {before : Seen} {work : List Work} (target : CallTarget) (args : List Value) {end : RunEnd} →
       end ≡ refusal → may_call (denotations program) f.scope.comp.now target args ≡ false →
-      Steps program before work f (calling target args) (Stop end) before work f
+      Steps program cost before work f (calling target args) (Stop end) before work f
   refused target args same is = rw same (steps_as (λ n s. ap (λ b. tried b target args n s) is)
       (step_stops (λ n. rg) halts))
 
-  allowed : {before after : Seen} {work later : List Work} (target : CallTarget) (args : List Value) {step : Step}
-      {g : Frame} → may_call (denotations program) f.scope.comp.now target args ≡ true →
-      Steps program before work f (tried true target args) step after later g →
-      Steps program before work f (calling target args) step after later g
+  allowed : {cost : ℕ} {before after : Seen} {work later : List Work} (target : CallTarget) (args : List Value)
+      {step : Step} {g : Frame} → may_call (denotations program) f.scope.comp.now target args ≡ true →
+      Steps program cost before work f (tried true target args) step after later g →
+      Steps program cost before work f (calling target args) step after later g
   allowed target args is h = steps_as (λ n s. ap (λ b. tried b target args n s) is) h
 
-  pub own_missing : {before : Seen} {work : List Work} (number : ℕ) (args : List Value) {end : RunEnd} → end ≡ refusal →
+  pub own_missing : {cost : ℕ} {before : Seen} {work : List Work} (number : ℕ) (args : List Value)
+      {end : RunEnd} → end ≡ refusal →
       function (denotations program) f.scope.comp.now number ≡ None →
-      Steps program before work f (calling (Own number) args) (Stop end) before work f
+      Steps program cost before work f (calling (Own number) args) (Stop end) before work f
   own_missing number args same is = refused (Own number) args same (ap is_some is)
 
   -- a function that is entered, as a call sees it
@@ -85,10 +86,10 @@ module _ (program : ProgramTree) (f : Frame) (to : To) where
   is_there callee here place there = (λ i. is_some
       (function (denotations program) (sym here i) (sym place i))) ∙ ap is_some there
 
-  pub own_enters : {before after : Seen} {work later : List Work} (callee : Callee) (number : ℕ) (args : List Value)
-      {step : Step} {g : Frame} → FoundAt program f.scope.comp.now number (Some callee) →
-      Steps program before work f (entering callee args None) step after later g →
-      Steps program before work f (calling (Own number) args) step after later g
+  pub own_enters : {cost : ℕ} {before after : Seen} {work later : List Work} (callee : Callee) (number : ℕ)
+      (args : List Value) {step : Step} {g : Frame} → FoundAt program f.scope.comp.now number (Some callee) →
+      Steps program cost before work f (entering callee args None) step after later g →
+      Steps program cost before work f (calling (Own number) args) step after later g
   own_enters callee number args found h = allowed (Own number) args (is_there callee found.0 found.1 found.2)
       (steps_as (λ n s i. and_then (and_then (turn s) (λ _ s. run_in (denotations program) (bodies program n)
       (sym found.0 i) (sym found.1 i) args back_own s)) rg) h)
@@ -110,8 +111,8 @@ module _ (program : ProgramTree) (f : Frame) (to : To) where
     abbrev pub MayCross : Bool → Type 0
     MayCross may = may ≡ (imported && (taken && words))
 
-    pub cross_refused : {before : Seen} {work : List Work} {end : RunEnd} → end ≡ refusal → MayCross false →
-        Steps program before work f (calling (Cross comp index) args) (Stop end) before work f
+    pub cross_refused : {cost : ℕ} {before : Seen} {work : List Work} {end : RunEnd} → end ≡ refusal → MayCross false →
+        Steps program cost before work f (calling (Cross comp index) args) (Stop end) before work f
     cross_refused same may = refused (Cross comp index) args same (first_fails _ taken words _ (sym may))
 
     no_lead : (o : Option ℕ) → entry_in program comp (Export index) ≡ o → EntryAt program comp (Export index) None →
@@ -119,15 +120,15 @@ module _ (program : ProgramTree) (f : Frame) (to : To) where
     no_lead None is h = refl
     no_lead (Some number) is h = ap is_some (h number is)
 
-    pub cross_missing : {before : Seen} {work : List Work} {end : RunEnd} → end ≡ refusal →
+    pub cross_missing : {cost : ℕ} {before : Seen} {work : List Work} {end : RunEnd} → end ≡ refusal →
         EntryAt program comp (Export index) None →
-        Steps program before work f (calling (Cross comp index) args) (Stop end) before work f
+        Steps program cost before work f (calling (Cross comp index) args) (Stop end) before work f
     cross_missing same none = refused (Cross comp index) args same (last_fails _ taken words (no_lead _ refl none))
 
-    pub cross_enters : {before after : Seen} {work later : List Work} (callee : Callee) {step : Step} {g : Frame} →
-        MayCross true → EntryAt program comp (Export index) (Some callee) →
-        Steps program before work f (entering callee args (Some index)) step after later g →
-        Steps program before work f (calling (Cross comp index) args) step after later g
+    pub cross_enters : {cost : ℕ} {before after : Seen} {work later : List Work} (callee : Callee) {step : Step}
+        {g : Frame} → MayCross true → EntryAt program comp (Export index) (Some callee) →
+        Steps program cost before work f (entering callee args (Some index)) step after later g →
+        Steps program cost before work f (calling (Cross comp index) args) step after later g
     cross_enters callee may entry h = allowed (Cross comp index) args (all_hold imported taken words (sym may)
         (ap leads_there entry.0 ∙ is_there callee entry.1.0 refl entry.1.2)) (steps_as same h) where
           as_words : crossed args ≡ args
@@ -144,17 +145,23 @@ module _ (program : ProgramTree) (f : Frame) (to : To) where
               (emit_event (Call f.scope.comp.now (sym entry.1.0 i) index (map word_in args)) s))) rg)
 
   -- the next input
-  pub input_steps : {before middle emitted after : Seen} {work : List Work} (args : List Value) {word : ℕ}
+  pub input_steps : {cost : ℕ} {before middle emitted after : Seen} {work : List Work} (args : List Value) {word : ℕ}
       {step : Step} →
       may_call (denotations program) f.scope.comp.now Input args ≡ true → word ≡ next_input before.inputs →
       middle ≡ record before { inputs = drop 1 before.inputs } →
       emitted ≡ record middle { trace = middle.trace ++ In f.scope.comp.now word ∷ [] } →
-      Steps program emitted work f (λ n s. rg (Some (Word word)) s) step after work f →
-      Steps program before work f (calling Input args) step after work f
+      Steps program cost emitted work f (λ n s. rg (Some (Word word)) s) step after work f →
+      Steps program cost before work f (calling Input args) step after work f
   input_steps {before} {emitted} args {word} may is rest emits_trace h = allowed Input args may (steps_on
       {p = λ s. Reached (Some (Word _)) (read_input f.scope.comp.now s)} (λ n. rg) (record {
         comes = λ s is_seen. (ap (λ w. Some (Word w)) (ap (λ x. next_input x.inputs) is_seen ∙ sym is), seen s is_seen);
         fewer = omega (arith, ap (λ x. x.turns) emits_trace, ap (λ x. x.turns) rest);
+        lengths = λ comp. omega (
+          arith,
+          ap (λ x. length (x.memory comp)) emits_trace,
+          ap (λ x. length (x.memory comp))
+              rest,
+        );
       }) h) where
         seen : (s : State) → seen_of s ≡ before → seen_of (read_input f.scope.comp.now s) ≡ emitted
         seen s is_seen = ap {A = Seen} (λ x. record x {
@@ -166,11 +173,12 @@ module _ (program : ProgramTree) (f : Frame) (to : To) where
         }) ∙ ap {A = Seen} (λ x. record x { trace = x.trace ++ In f.scope.comp.now word ∷ [] }) (sym rest) ∙ sym
             emits_trace
 
-  pub output_steps : {before emitted after : Seen} {work : List Work} (args : List Value) {word : ℕ} {step : Step} →
+  pub output_steps : {cost : ℕ} {before emitted after : Seen} {work : List Work} (args : List Value) {word : ℕ}
+      {step : Step} →
       may_call (denotations program) f.scope.comp.now Output args ≡ true → word ≡ first_word args →
       emitted ≡ record before { trace = before.trace ++ Out f.scope.comp.now word ∷ [] } →
-      Steps program emitted work f (λ n s. rg None s) step after work f →
-      Steps program before work f (calling Output args) step after work f
+      Steps program cost emitted work f (λ n s. rg None s) step after work f →
+      Steps program cost before work f (calling Output args) step after work f
   output_steps {before} args may is emits_trace h = allowed Output args may (steps_on
       {p = λ s. Reached None _} (λ n. rg) (record {
         comes = λ s is_seen. (
@@ -180,6 +188,7 @@ module _ (program : ProgramTree) (f : Frame) (to : To) where
               (λ i. record before { trace = before.trace ++ Out f.scope.comp.now (sym is i) ∷ [] }) ∙ sym emits_trace,
         );
         fewer = omega (arith, ap (λ x. x.turns) emits_trace);
+        lengths = λ comp. omega (arith, ap (λ x. length (x.memory comp)) emits_trace);
       }) h)
 
   module _ (target : CallTarget) (args : List TypedExpr) (line : ℕ) where
@@ -195,18 +204,18 @@ module _ (program : ProgramTree) (f : Frame) (to : To) where
     by_assoc : (n : ℕ) (s : State) → whole_call n s ≡ stepwise n s
     by_assoc n s = then_then (given_args s) (λ vs s. calls_in program n _ target vs s) rg
 
-  pub call_steps_by : {before after : Seen} {work later : List Work} (target : CallTarget)
+  pub call_steps_by : {cost : ℕ} {before after : Seen} {work later : List Work} (target : CallTarget)
       {es given_es : List TypedExpr} (line : ℕ) {r : Result (List Value) RunEnd} {vs given_vs : List Value}
       {step : Step} {g : Frame} → given_es ≡ es → r ≡ Ok vs → given_vs ≡ vs →
       Comes before before r (given_args target given_es line) →
-      Steps program before work f (calling target given_vs) step after later g →
-      Steps program before work f (whole_call target es line) step after later g
+      Steps program cost before work f (calling target given_vs) step after later g →
+      Steps program cost before work f (whole_call target es line) step after later g
   call_steps_by target line same is values_is c h = steps_as (by_assoc target _ line)
       (steps_on (λ n vs. calling target vs n) (rw (same, is) at c) (rw values_is at h))
 
-  pub call_blamed_by : {before : Seen} {work : List Work} (target : CallTarget) {es given_es : List TypedExpr}
-      (line : ℕ) {r : Result (List Value) RunEnd} {end : RunEnd} → given_es ≡ es → r ≡ Err end →
+  pub call_blamed_by : {cost : ℕ} {before : Seen} {work : List Work} (target : CallTarget)
+      {es given_es : List TypedExpr} (line : ℕ) {r : Result (List Value) RunEnd} {end : RunEnd} → given_es ≡ es → r ≡ Err end →
       Comes before before r (given_args target given_es line) →
-      Steps program before work f (whole_call target es line) (Stop end) before work f
+      Steps program cost before work f (whole_call target es line) (Stop end) before work f
   call_blamed_by target line same is c = steps_as (by_assoc target _ line)
       (step_stops (λ n vs. calling target vs n) (rw (same, is) at c))

@@ -7,8 +7,11 @@ pub mod Counts
 pub mod Finding
 pub mod Going
 pub mod Invoking
+pub mod Lasting
+pub mod Lengths
 pub mod Looping
 pub mod Making
 pub mod Numbers
 pub mod Stating
+pub mod Weighing
 pub mod Whole

@@ -56,6 +56,7 @@ module _ (structs : List TypedStruct) (here : Here) (params : ℕ) where
   -- the first `k` initialisers are done: those that follow do the same as all
   pub record Started (locals : List TypedLocal) (k : ℕ) (before now : Seen) : Type 0 where
     pub fewer : now.turns ≤ before.turns
+    pub lengths : (comp : ℕ) → length (now.memory comp) ≤ length (before.memory comp)
     pub on : (after : Seen) (r : Result (Left (Unit {0})) RunEnd) → Comes now after r (inits_from locals k tt) →
         Comes before after r (inits_from locals 0 tt)
 
@@ -74,9 +75,11 @@ module _ (structs : List TypedStruct) (here : Here) (params : ℕ) where
   started_more locals k {local} before {now} {next} there item h c =
       record {
         fewer = omega (arith, h.fewer, c.fewer);
+        lengths = λ comp. omega (arith, h.lengths comp, c.lengths comp);
         on = λ after r d. h.on after r (record {
           comes = λ s is_seen. by_first after r d s is_seen;
           fewer = omega (arith, c.fewer, d.fewer);
+          lengths = λ comp. omega (arith, c.lengths comp, d.lengths comp);
         });
       } where
         by_piece : (after : Seen) (r : Result (Left (Unit {0})) RunEnd) →
@@ -100,6 +103,7 @@ module _ (structs : List TypedStruct) (here : Here) (params : ℕ) where
     comes = λ s is_seen. subst (CameTo (Err end) next) (sym (first_init locals k there item s))
         (by_piece (init_does c_arith structs here params k local _ tt s) (c.comes s is_seen));
     fewer = c.fewer;
+    lengths = c.lengths;
   }) where
     by_piece : (p : Piece (Left (Unit {0}))) → CameTo (Err end) next p →
         CameTo (Err end) next (follow in_order p (inits_from locals (k + 1)))
@@ -112,6 +116,7 @@ module _ (structs : List TypedStruct) (here : Here) (params : ℕ) where
     comes = λ s is_seen. subst (λ ls. CameTo usual now
         (all_do (inits_do c_arith structs here params k ls) tt s)) (sym (drop_all k locals all)) (refl, is_seen);
     fewer = omega arith;
+    lengths = λ comp. omega arith;
   })
 
 abbrev pub param_sizes : List TypedStruct → TypedFunction → List ℕ

@@ -1,56 +1,18 @@
--- Room for variables is kept.
-use Rattle.sc_run.proofs.Common.{Block, Blocks, Bool, Callee, Cause, Err, Frame, List, Memory, None, Ok, Option}
-use Rattle.sc_run.proofs.Common.{OutOfBounds, Result, Seen, Some, Value, Ways, Word, [], ap, arith, bind, blocks_for}
-use Rattle.sc_run.proofs.Common.{cleared, emitted_call, ended, false, given_back, if◌then◌else◌, length, length-append}
-use Rattle.sc_run.proofs.Common.{length-map, living, nat_lt, refl, slice_get, store, subst, suc, sym, true, with_blocks}
-use Rattle.sc_run.proofs.Common.{with_cell, zero, ℕ, ◌++◌, ◌+◌, ◌<◌, ◌==◌, ◌∙◌, ◌∷◌, ◌≡◌, ◌≤◌}
+-- Numbers for variables are kept.
+use Rattle.sc_run.proofs.Common.{Block, Blocks, Bool, Callee, Cause, Err, Frame, List, Memory, None, Ok, Option, Result}
+use Rattle.sc_run.proofs.Common.{Seen, Some, Value, Ways, ap, arith, blocks_for, cleared, emitted_call, false}
+use Rattle.sc_run.proofs.Common.{if◌then◌else◌, length, length-append, store, subst, suc, sym, true, with_blocks, ℕ}
+use Rattle.sc_run.proofs.Common.{◌++◌, ◌+◌, ◌<◌, ◌==◌, ◌∙◌, ◌≡◌, ◌≤◌}
 use Rattle.std.specs.Prelude.{MatchResult, OnErr, OnOk}
-use Rattle.std.proofs.Common.{is_some, length-set, map, slice_set, ◌&&◌, ◌*◌, ◌^◌}
+use Rattle.std.proofs.Common.{◌*◌, ◌^◌}
 use Rattle.sc_blocks.specs.Rows.{free_cell, with_words}
-use Rattle.sc_core.specs.Prelude.{allocated_at, cell_of, most_nodes, over, without_block}
-use Rattle.sc_core.specs.declared.cause.Cause.TheVariants.{BadFree}
-use Rattle.sc_core.specs.declared.value.Pointer.{Pointer}
-use Rattle.sc_core.specs.declared.value.Value.TheVariants.{Null, Ptr}
+use Rattle.sc_core.specs.Prelude.{cell_of, most_nodes}
 use Rattle.sc_run_value.specs.Assigning.{AssignedIf}
 use Rattle.sc_run.specs.Numbers.{NumbersSuffice}
+use Rattle.sc_run.proofs.Lengths.{length_blocks_for, length_cleared, length_free, length_store, length_words}
 use Rattle.sc_run.proofs.Making.{at_itself, with_sizes}
 
--- THE NUMBER OF BLOCKS
-
-length_ended : (first count : ℕ) (bs : Blocks) → length (ended first count bs) ≡ length bs
-length_ended zero zero bs = refl
-length_ended zero (suc count) [] = refl
-length_ended zero (suc count) (b ∷ bs) = ap suc (length_ended zero count bs)
-length_ended (suc first) count [] = refl
-length_ended (suc first) count (b ∷ bs) = ap suc (length_ended first count bs)
-
-length_cleared : (first count : ℕ) (bs : Blocks) → length (cleared first count bs) ≡ length bs
-length_cleared first count bs = length-map (ended first count bs) given_back ∙ length_ended first count bs
-
-length_put : (b : Bool) (changed : Blocks) (cause : Cause) {after : Blocks} →
-    (if b then Ok changed else Err cause) ≡ Ok after → length after ≡ length changed
-length_put true changed cause {after} h = let same : after ≡ changed = cc h in ap length same
-length_put false changed cause h = absurd (cc h)
-
-length_living : (bs : Blocks) (p : Pointer) (v : Value) (block : Result Block Cause) {after : Blocks} →
-    bind block (with_cell bs p v) ≡ Ok after → length after ≡ length bs
-length_living bs p v (Err cause) h = absurd (cc h)
-length_living bs p v (Ok block) h =
-    length_put (nat_lt p.index (length block.cells)) _ OutOfBounds h ∙ length-set bs p.block _
-
--- a store makes no block
-length_store : (bs : Blocks) (q v : Value) {after : Blocks} → store bs q v ≡ Ok after → length after ≡ length bs
-length_store bs (Word w) v h = absurd (cc h)
-length_store bs Null v h = absurd (cc h)
-length_store bs (Ptr p) v h = length_living bs p v (living (slice_get bs p.block)) h
-
-length_blocks_for : (sizes : List ℕ) (args : List Value) → length (blocks_for sizes args) ≡ length sizes
-length_blocks_for [] [] = refl
-length_blocks_for [] (v ∷ args) = refl
-length_blocks_for (n ∷ sizes) [] = ap suc (length_blocks_for sizes [])
-length_blocks_for (n ∷ sizes) (v ∷ args) = ap suc (length_blocks_for sizes args)
-
--- ROOM IS KEPT
+-- NUMBERS ARE KEPT
 
 pub numbers_fewer : {memory : Memory} {turns fewer : ℕ} → fewer ≤ turns → NumbersSuffice memory turns →
     NumbersSuffice memory fewer
@@ -104,10 +66,6 @@ numbers_cleared comp first count {memory} {turns} is h =
     subst (λ m. NumbersSuffice m turns) (sym is) (numbers_with comp (cleared first count (memory comp))
     (omega (arith, length_cleared first count (memory comp), h.numbers comp)) h)
 
-length_words : (words : ℕ) (place : Option ℕ) (bs : Blocks) → length (with_words words place bs) ≤ suc (length bs)
-length_words words None bs = omega arith
-length_words words (Some place) bs = omega (arith, length-append bs (allocated_at place words ∷ []))
-
 -- a block that is allocated takes one number
 pub numbers_allocated : (comp words : ℕ) (place : Option ℕ) {memory after : Memory} {turns : ℕ} →
     after ≡ with_blocks comp (with_words words place (memory comp)) memory →
@@ -124,32 +82,6 @@ pub numbers_asked : {A E : Type 0} (result : Result A E) (comp words : ℕ) (pla
     NumbersSuffice memory turns → NumbersSuffice after turns
 numbers_asked (Ok x) comp words place is same few h = numbers_allocated comp words place is few h
 numbers_asked (Err e) comp words place {turns} is same few h = subst (λ m. NumbersSuffice m turns) (sym same) h
-
-length_over : (b : Bool) (bs : Blocks) (k : ℕ) (block : Block) {after : Blocks} →
-    bind (if b then Ok (slice_set bs k block) else Err BadFree) (λ cs. Ok (map given_back cs)) ≡ Ok after →
-    length after ≡ length bs
-length_over true bs k block {after} h =
-    let same : after ≡ map given_back (slice_set bs k block) = cc h in
-    ap length same ∙ length-map (slice_set bs k block) given_back ∙ length-set bs k block
-length_over false bs k block h = absurd (cc h)
-
-length_without : (bs : Blocks) (k : ℕ) (o : Option Block) {after : Blocks} →
-    bind (without_block bs k o) (λ cs. Ok (map given_back cs)) ≡ Ok after → length after ≡ length bs
-length_without bs k None h = absurd (cc h)
-length_without bs k (Some b) h = length_over (b.live && is_some b.place) bs k (over b) h
-
-length_start : (b : Bool) (bs : Blocks) (k : ℕ) {after : Blocks} →
-    bind (if b then without_block bs k (slice_get bs k) else Err BadFree) (λ cs. Ok (map given_back cs)) ≡ Ok after →
-    length after ≡ length bs
-length_start true bs k h = length_without bs k (slice_get bs k) h
-length_start false bs k h = absurd (cc h)
-
--- what is freed keeps its number
-length_free : (bs : Blocks) (v : Value) {after : Blocks} → free_cell bs (cell_of v) ≡ Ok after →
-    length after ≡ length bs
-length_free bs (Word w) h = absurd (cc h)
-length_free bs Null {after} h = let same : bs ≡ after = cc h in ap length (sym same)
-length_free bs (Ptr p) h = length_start (p.index == 0) bs p.block h
 
 numbers_freed : (comp : ℕ) (v : Value) {memory after : Memory} {turns : ℕ} →
     free_cell (memory comp) (cell_of v) ≡ Ok (after comp) → after ≡ with_blocks comp (after comp) memory →

@@ -171,8 +171,8 @@ Since program first begun f now seen work g = (whole : SourceRun) → Standing p
 
 module _ (program : ProgramTree) (first : Now) (begun : Seen) (f : Frame) (now : Now) (seen : Seen) (work : List Work)
     (g : Frame) (stands_so : Since program first begun f now seen work g) where
-  module _ (step : Step) (later : Seen) (last : List Work) (h : Frame)
-      (steps : Steps program seen work g (does_now program g now) step later last h) where
+  module _ {cost : ℕ} (step : Step) (later : Seen) (last : List Work) (h : Frame)
+      (steps : Steps program cost seen work g (does_now program g now) step later last h) where
     -- one more step
     pub since_step : {next : Now} → step ≡ Go next → Since program first begun f next later last h
     since_step is whole start = subst (λ x. Stands program whole x later last h) is
@@ -207,8 +207,8 @@ module _ (program : ProgramTree) (inputs : List ℕ) (turns events : ℕ) where
     stands_first = begins program inputs turns callee _ after f at.0 at.1.0 refl at.1.2
         (subst (λ x. Begun callee [] x after f) at_first begun)
 
-    module _ {run : SourceRun} {started : Seen} {step : Step}
-        (steps : Steps program after [] f (λ n s. body_acts program n f tt s) step started [] f) where
+    module _ {cost : ℕ} {run : SourceRun} {started : Seen} {step : Step}
+        (steps : Steps program cost after [] f (λ n s. body_acts program n f tt s) step started [] f) where
       -- a run that ends before the first statement
       pub over_at_once : {end : RunEnd} → step ≡ Stop end →
           run ≡ stopped_at events (record { trace = started.trace; end = end }) →

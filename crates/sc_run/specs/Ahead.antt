@@ -1,7 +1,7 @@
 -- Helping: what is done at once, and leaves nothing that waits.
 use Rattle.sc_run.specs.Common.{Frame, Left, Loop, Next, Piece, ProgramTree, State, TypedStmt, follow, in_loop}
 use Rattle.sc_run.specs.Common.{in_order, leave}
-use Rattle.std.specs.Prelude.{◌≡◌, ℕ, ◌≤◌, Bool, true, false, List, drop, Option, None, Some}
+use Rattle.std.specs.Prelude.{◌≡◌, ℕ, ◌≤◌, Bool, true, false, List, drop, length, Option, None, Some}
 use Rattle.sc_run.specs.declared.work.Position.{Position}
 use Rattle.sc_run.specs.Seen.{Seen, seen_of}
 use Rattle.sc_run.specs.Resume.{block_acts, loop_acts, next_acts}
@@ -14,6 +14,7 @@ Doing = ℕ → State → Piece (Left (Unit {0}))
 pub record Passes (before after : Seen) (p q : Doing) : Type 0 where
   pub passes : (n : ℕ) (s : State) → seen_of s ≡ before → (t : State) × (seen_of t ≡ after) × (p n s ≡ q n t)
   pub fewer : after.turns ≤ before.turns
+  pub lengths : (comp : ℕ) → length (after.memory comp) ≤ length (before.memory comp)
 
 -- that was done, or nothing
 abbrev pub PassesIf : Bool → Seen → Seen → Doing → Doing → Type 0

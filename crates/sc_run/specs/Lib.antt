@@ -9,3 +9,4 @@ pub mod Returning
 pub mod Numbers
 pub mod Seen
 pub mod Starting
+pub mod Weights

@@ -1,6 +1,6 @@
 -- Helping: numbers for the variables of calls. The blocks of a compartment have numbers below 2^63.
-use Rattle.sc_core.specs.Prelude.{Memory, most_cells, most_compartments, most_nodes, struct_zeros, variables}
-use Rattle.sc_core.specs.Prelude.{zeros_of}
+use Rattle.sc_core.specs.Prelude.{Memory, most_cells, most_compartments, most_nodes, stmt_nodes, struct_zeros}
+use Rattle.sc_core.specs.Prelude.{total, variables, zeros_of}
 use Rattle.std.specs.Prelude.{◌≡◌, ℕ, ◌+◌, ◌*◌, ◌^◌, ◌<◌, ◌≤◌, true, List, [], length, map, nat_le, slice_get}
 use Rattle.std.specs.Prelude.{Some}
 use Rattle.std.specs.List.{list_all}
@@ -17,9 +17,10 @@ pub record NumbersSuffice (memory : Memory) (turns : ℕ) : Type 0 where
 abbrev pub AreSmall : List ℕ → Type 0
 AreSmall sizes = list_all (λ n. nat_le n most_cells) sizes ≡ true
 
--- a function has few variables, and they are small
+-- a function has few variables, which are small, and few nodes in its statements
 pub record HasFewVariables (structs : List TypedStruct) (f : TypedFunction) : Type 0 where
   pub few : length (variables structs f) < most_nodes
+  pub short : total (map stmt_nodes f.body) < most_nodes
   pub small : AreSmall (variables structs f)
 
 -- how many cells each global of a section has

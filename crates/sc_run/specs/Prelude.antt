@@ -9,7 +9,7 @@ pub use Rattle.sc_core.specs.Prelude.{zeros_of}
 pub use Rattle.sc_blocks.specs.Rows.{memory_of}
 pub use Rattle.sc_run_value.specs.Prelude.{here_of}
 pub use Rattle.sc_run.specs.Ahead.{Doing, Passes, PassesIf, ended_so, in_body, in_round, left_at}
-pub use Rattle.sc_run.specs.Comes.{CameTo, Comes, with_exit}
+pub use Rattle.sc_run.specs.Comes.{CameTo, Comes, ComesMaking, with_exit}
 pub use Rattle.sc_run.specs.Entering.{Begun, back_from, block_for, body_acts, emitted_call, entry_from, with_variables}
 pub use Rattle.sc_run.specs.Finding.{EntryAt, FoundAt}
 pub use Rattle.sc_run.specs.Resume.{Advances, EndsAs, Standing, Stands, Steps, back_to, block_acts, bodies, calls_in}
@@ -18,3 +18,5 @@ pub use Rattle.sc_run.specs.Resume.{next_acts, part_acts, result_goes, resume, r
 pub use Rattle.sc_run.specs.Returning.{back_value, emitted_return, ended_as, left_by, variable_count, word_crossing}
 pub use Rattle.sc_run.specs.Seen.{Seen, kept_by, seen_of}
 pub use Rattle.sc_run.specs.Starting.{cell_with}
+pub use Rattle.sc_run.specs.Weights.{AnotherSuffices, IsLess, NumbersLast, block_nodes, block_weight}
+pub use Rattle.sc_run.specs.Weights.{body_weight, leaf_weight, loop_weight, now_weight, place_weight, stmt_weight}

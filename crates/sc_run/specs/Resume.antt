@@ -23,6 +23,7 @@ use Rattle.sc_run.specs.declared.work.Run.{Run as Run''}
 use Rattle.sc_run.specs.declared.work.Step.{Step}
 use Rattle.sc_run.specs.declared.work.Step.TheVariants.{Go, Stop}
 use Rattle.sc_run.specs.Seen.{Seen, seen_of, kept_by}
+use Rattle.sc_run.specs.Weights.{AreLight, StepFalls, most_weight}
 
 abbrev pub exit_of : Leaving → Exit
 exit_of leaving.Next = Next
@@ -130,13 +131,15 @@ module _ (program : ProgramTree) where
   Stands whole (Go now) seen work f = Standing whole seen work f (does_now f now)
   Stands whole (Stop end) seen work f = whole ≡ record { trace = seen.trace; end = end }
 
-  -- a step, whatever the whole run is
-  pub record Steps (before : Seen) (work : List Work) (f : Frame) (piece : ℕ → State → Piece (Left (Unit {0})))
-      (step : Step) (after : Seen) (later : List Work) (g : Frame) : Type 0 where
+  -- a step of what weighs `cost`, whatever the whole run is: less is left after it
+  pub record Steps (cost : ℕ) (before : Seen) (work : List Work) (f : Frame)
+      (piece : ℕ → State → Piece (Left (Unit {0}))) (step : Step) (after : Seen) (later : List Work) (g : Frame)
+      : Type 0 where
     pub stands : (whole : SourceRun) → Standing whole before work f piece → Stands whole step after later g
+    pub falls : cost ≤ most_weight → AreLight work → StepFalls cost before work step after later
 
   -- the same of a run that was here before the step, and is there after it
-  abbrev pub Advances : Run'' → (ℕ → State → Piece (Left (Unit {0}))) → Step → Run'' → Type 0
-  Advances run piece step later =
-      Steps (kept_by run.machine) run.work.items run.frame piece step
+  abbrev pub Advances : ℕ → Run'' → (ℕ → State → Piece (Left (Unit {0}))) → Step → Run'' → Type 0
+  Advances cost run piece step later =
+      Steps cost (kept_by run.machine) run.work.items run.frame piece step
       (kept_by later.machine) later.work.items later.frame

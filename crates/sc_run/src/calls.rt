@@ -2,6 +2,7 @@
 
 ghost use Rattle.sc_core.specs.Prelude.{most_params};
 ghost use Rattle.sc_run.specs.Prelude.{Advances, Begun, Steps, and_then, back_from, block_acts, bodies, body_acts};
+ghost use Rattle.sc_run.specs.Prelude.{body_weight, leaf_weight};
 ghost use Rattle.sc_run.specs.Prelude.{c_arith, denotations, emitted_call, entry_from, function, function_of, kept_by};
 ghost use Rattle.sc_run.specs.Prelude.{memory_of, result_goes, run_in, turn, word_in};
 ghost use Rattle.sc_run.specs.Numbers.{HasFewVariables, NumbersSuffice};
@@ -28,7 +29,7 @@ pub fn hand_back<'a>(
     to: To<'a>,
     result_value: Option<Value>,
 ) -> Step<'a>
-    ensures { Steps program.now (kept_by machine.old) work.now.items frame.now
+    ensures { Steps program.now leaf_weight (kept_by machine.old) work.now.items frame.now
         (λ n s. result_goes program.now frame.now to.entry result_value s) result
         (kept_by machine.new) work.now.items frame.now }
 {
@@ -53,7 +54,7 @@ pub fn start<'a>(
     frame: &Frame<'a>,
 ) -> Step<'a>
     requires { length frame.now.function.now.locals < 2 ^ 32 }
-    ensures { Steps program.now (kept_by machine.old) work.now.items frame.now
+    ensures { Steps program.now (body_weight frame.now.function.now) (kept_by machine.old) work.now.items frame.now
         (λ n s. body_acts program.now n frame.now tt s) result (kept_by machine.new) work.now.items frame.now }
 {
     match init_all(machine, frame) {
@@ -148,7 +149,7 @@ fn run_body<'a>(
     to: To<'a>,
     crossing: Option<u16>,
 ) -> Result<Step<'a>, OutOfMemory>
-    ensures { IfOk result (λ step. Steps program.now (kept_by run.old.machine)
+    ensures { IfOk result (λ step. Steps program.now (body_weight next.now.function.now) (kept_by run.old.machine)
         (run.old.work.items ++ Work.Caller run.old.frame to.entry crossing ∷ []) next.now
         (λ n s. block_acts program.now n next.now next.now.function.now.body tt s) step
         (kept_by run.new.machine) run.new.work.items run.new.frame) }
@@ -180,7 +181,7 @@ fn run_called<'a>(
     crossing: Option<u16>,
 ) -> Result<Step<'a>, OutOfMemory>
     requires { length next.now.function.now.locals < 2 ^ 32 }
-    ensures { IfOk result (λ step. Steps program.now (kept_by run.old.machine)
+    ensures { IfOk result (λ step. Steps program.now (body_weight next.now.function.now) (kept_by run.old.machine)
         (run.old.work.items ++ Work.Caller run.old.frame to.entry crossing ∷ []) next.now
         (λ n s. body_acts program.now n next.now tt s) step
         (kept_by run.new.machine) run.new.work.items run.new.frame) }
@@ -204,7 +205,7 @@ pub fn enter<'a>(
     requires words { IfSome crossing (λ _. length args.now ≤ most_params) }
     requires function { function (denotations program.now) callee.now.comp.now callee.now.number ≡
         Some (function_of c_arith program.now.interfaces.main callee.now.structs.now callee.now.function.now) }
-    ensures { IfOk result (λ step. Advances program.now run.old
+    ensures { IfOk result (λ step. Advances program.now leaf_weight run.old
         (λ n s. and_then (and_then (turn s) (λ _ s. run_in (denotations program.now)
         (bodies program.now n) callee.now.comp.now callee.now.number args.now
         (back_from program.now run.old.frame callee.now crossing)

@@ -1,9 +1,9 @@
 //! Statements that allocate and free (C11 7.22.3).
 
-ghost use Rattle.sc_core.specs.Prelude.{allocate_at, allocated, elements_allocated, free_value, most_nodes, released};
-ghost use Rattle.sc_run.specs.Prelude.{Advances, Comes, Next, count_way_in, evaluated, here_of, kept_by, memory_of};
-ghost use Rattle.sc_run.specs.Prelude.{way_in, with_exit};
-ghost use Rattle.std.specs.Prelude.{◌≡◌, ◌<◌, ◌+◌, ◌*◌, ◌^◌, IfOk, IsTrue, Ok, length};
+ghost use Rattle.sc_core.specs.Prelude.{allocate_at, allocated, elements_allocated, free_value, released};
+ghost use Rattle.sc_run.specs.Prelude.{Advances, AnotherSuffices, Comes, ComesMaking, Next, count_way_in, evaluated};
+ghost use Rattle.sc_run.specs.Prelude.{here_of, kept_by, leaf_weight, way_in, with_exit};
+ghost use Rattle.std.specs.Prelude.{IfOk, Ok};
 ghost use Rattle.sc_core.specs.declared.value.Want.TheVariants as want;
 
 use crate::machine::{blamed, evaluated, store_at};
@@ -11,9 +11,6 @@ use crate::state::Machine;
 use crate::work::{Frame, Leaving, Now, Run, Step};
 use sc_base::OutOfMemory;
 use sc_core::{Cause, Pointer, Program, RunEnd, TypedExpr, Value, Want};
-use sc_event::CompId;
-
-const MOST_NODES: u64 = 16_777_216;
 
 // How many elements are allocated: one where no count stands.
 fn count_of(
@@ -31,23 +28,13 @@ fn count_of(
     }
 }
 
-// Whether a block more has a number, beside the variables of the calls in the turns that are left.
-fn has_number(machine: &Machine, comp: CompId) -> bool
-    ensures { IsTrue result →
-        length (memory_of machine.now.blocks comp) + most_nodes * machine.now.turns < 2 ^ 63 }
-{
-    machine.blocks.made(comp) + MOST_NODES * (machine.turns as u64) < 1 << 63
-}
-
 // A block of `words` words, or null where the zone has no place for them.
 fn allocated(machine: &mut Machine, frame: &Frame, words: u64) -> Result<Value, OutOfMemory>
-    ensures { IfOk result (λ pointer. Comes (kept_by machine.old) (kept_by machine.new) (Ok pointer)
+    requires { AnotherSuffices (kept_by machine.old) }
+    ensures { IfOk result (λ pointer. ComesMaking 1 (kept_by machine.old) (kept_by machine.new) (Ok pointer)
         (allocated (here_of frame.now.scope) words)) }
 {
     let comp = *frame.scope.comp;
-    if !has_number(machine, comp) {
-        return Err(OutOfMemory);
-    }
     match machine.blocks.allocate(comp, words)? {
         Some(block) => Ok(Value::Ptr(Pointer { block, index: 0 })),
         None => Ok(Value::Null),
@@ -62,7 +49,8 @@ fn elements_allocated(
     cells: u32,
     line: u32,
 ) -> Result<Result<Value, RunEnd>, OutOfMemory>
-    ensures { IfOk result (λ found. Comes (kept_by machine.old) (kept_by machine.new) found
+    requires { AnotherSuffices (kept_by machine.old) }
+    ensures { IfOk result (λ found. ComesMaking 1 (kept_by machine.old) (kept_by machine.new) found
         (elements_allocated (here_of frame.now.scope) count cells line)) }
 {
     match count {
@@ -83,7 +71,8 @@ fn allocate_at(
     cells: u32,
     line: u32,
 ) -> Result<Result<(), RunEnd>, OutOfMemory>
-    ensures { IfOk result (λ done. Comes (kept_by machine.old) (kept_by machine.new) (with_exit Next done)
+    requires { AnotherSuffices (kept_by machine.old) }
+    ensures { IfOk result (λ done. ComesMaking 1 (kept_by machine.old) (kept_by machine.new) (with_exit Next done)
         (allocate_at (here_of frame.now.scope) (way_in frame.now place.now) (count_way_in frame.now count.now) cells
         line tt)) }
 {
@@ -132,8 +121,10 @@ pub fn malloc<'a>(
     cells: u32,
     line: u32,
 ) -> Result<Step<'a>, OutOfMemory>
-    ensures { IfOk result (λ step. Advances program.now run.old (λ n. allocate_at (here_of run.old.frame.scope)
-        (way_in run.old.frame place.now) (count_way_in run.old.frame count.now) cells line tt) step run.new) }
+    requires { AnotherSuffices (kept_by run.old.machine) }
+    ensures { IfOk result (λ step. Advances program.now leaf_weight run.old (λ n. allocate_at
+        (here_of run.old.frame.scope) (way_in run.old.frame place.now) (count_way_in run.old.frame count.now) cells
+        line tt) step run.new) }
 {
     let done = allocate_at(&mut run.machine, &run.frame, place, count, cells, line)?;
     match done {
@@ -149,7 +140,7 @@ pub fn free<'a>(
     pointer: &TypedExpr,
     line: u32,
 ) -> Step<'a>
-    ensures { Advances program.now run.old (λ n. free_value (here_of run.old.frame.scope)
+    ensures { Advances program.now leaf_weight run.old (λ n. free_value (here_of run.old.frame.scope)
         (way_in run.old.frame pointer.now) line tt) result run.new }
 {
     match free_value(&mut run.machine, &run.frame, pointer, line) {

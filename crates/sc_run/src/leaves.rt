@@ -3,7 +3,8 @@
 ghost use Rattle.sc_run.specs.Prelude.{Advances, State, Steps, back_value, block_acts, closes, emitted_return};
 ghost use Rattle.sc_run.specs.Prelude.{ended_as, exit_of, exit_word, follow, in_loop, in_order, kept_by, leave};
 ghost use Rattle.sc_run.specs.Prelude.{left_by, loop_acts, main_name, next_acts, variable_count, word_crossing};
-ghost use Rattle.std.specs.Prelude.{◌≡◌, ◌++◌, [], ◌∷◌, IfOk, OnOk, bytes_eq, ◌==◌, ◌&&◌};
+ghost use Rattle.sc_run.specs.Prelude.{AnotherSuffices, block_weight, loop_weight};
+ghost use Rattle.std.specs.Prelude.{◌≡◌, ◌++◌, ◌+◌, [], ◌∷◌, suc, IfOk, OnOk, bytes_eq, ◌==◌, ◌&&◌};
 
 use crate::calls::{hand_back, word_in};
 use crate::machine::emit_event;
@@ -23,7 +24,8 @@ fn leave_before_rest<'a>(
     rest: &'a [TypedStmt],
     exit: Leaving,
 ) -> Step<'a>
-    ensures { Advances program.now run.now (λ n s. follow in_order (leave (exit_of exit) tt s)
+    ensures { Advances program.now (suc (block_weight rest.now)) run.now
+        (λ n s. follow in_order (leave (exit_of exit) tt s)
         (block_acts program.now n run.now.frame rest.now)) result run.now }
 {
     match exit {
@@ -41,7 +43,7 @@ fn leave_first<'a>(
     whole: &Loop<'a>,
     exit: Leaving,
 ) -> Result<Step<'a>, OutOfMemory>
-    ensures { IfOk result (λ step. Advances program.now run.old
+    ensures { IfOk result (λ step. Advances program.now (suc (loop_weight whole.now)) run.old
         (λ n s. follow in_order (leave (exit_of exit) tt s)
         (loop_acts program.now n run.old.frame whole.now)) step run.new) }
 {
@@ -60,7 +62,7 @@ fn leave_before_round<'a>(
     whole: &Loop<'a>,
     exit: Leaving,
 ) -> Result<Step<'a>, OutOfMemory>
-    ensures { IfOk result (λ step. Advances program.now run.old
+    ensures { IfOk result (λ step. Advances program.now (suc (loop_weight whole.now)) run.old
         (λ n s. follow in_loop (leave (exit_of exit) tt s)
         (loop_acts program.now n run.old.frame whole.now)) step run.new) }
 {
@@ -78,7 +80,8 @@ fn begin_next<'a>(
     run: &mut Run<'a, '_>,
     whole: &Loop<'a>,
 ) -> Result<Step<'a>, OutOfMemory>
-    ensures { IfOk result (λ step. Advances program.now run.old
+    requires { AnotherSuffices (kept_by run.old.machine) }
+    ensures { IfOk result (λ step. Advances program.now (2 + loop_weight whole.now) run.old
         (λ n s. follow in_loop (next_acts program.now n run.old.frame whole.now tt s)
         (loop_acts program.now n run.old.frame whole.now)) step run.new) }
 {
@@ -97,7 +100,8 @@ fn next_part<'a>(
     run: &mut Run<'a, '_>,
     whole: &Loop<'a>,
 ) -> Result<Step<'a>, OutOfMemory>
-    ensures { IfOk result (λ step. Advances program.now run.old
+    requires { AnotherSuffices (kept_by run.old.machine) }
+    ensures { IfOk result (λ step. Advances program.now (2 + loop_weight whole.now) run.old
         (λ n s. follow in_loop (next_acts program.now n run.old.frame whole.now tt s)
         (loop_acts program.now n run.old.frame whole.now)) step run.new) }
 {
@@ -114,7 +118,8 @@ fn leave_body<'a>(
     whole: &Loop<'a>,
     exit: Leaving,
 ) -> Result<Step<'a>, OutOfMemory>
-    ensures { IfOk result (λ step. Advances program.now run.old
+    requires { AnotherSuffices (kept_by run.old.machine) }
+    ensures { IfOk result (λ step. Advances program.now (2 + loop_weight whole.now) run.old
         (λ n s. follow in_loop (leave (exit_of exit) tt s)
         (λ a s. follow in_loop (next_acts program.now n run.old.frame whole.now a s)
         (loop_acts program.now n run.old.frame whole.now))) step run.new) }
@@ -232,7 +237,7 @@ pub fn return_to<'a>(
     crossed: Option<u16>,
     exit: Leaving,
 ) -> Result<Step<'a>, OutOfMemory>
-    ensures { IfOk result (λ step. Steps program.now (kept_by run.old.machine)
+    ensures { IfOk result (λ step. Steps program.now 1 (kept_by run.old.machine)
         (run.old.work.items ++ Work.Caller caller.now to.entry crossed ∷ []) run.old.frame
         (λ n s. leave (exit_of exit) tt s) step (kept_by run.new.machine) run.new.work.items run.new.frame) }
 {
@@ -270,7 +275,7 @@ fn finish<'a>(
     frame: &Frame<'a>,
     exit: Leaving,
 ) -> Result<Step<'a>, OutOfMemory>
-    ensures { IfOk result (λ step. Steps program.now (kept_by machine.old) [] frame.now
+    ensures { IfOk result (λ step. Steps program.now 1 (kept_by machine.old) [] frame.now
         (λ n s. leave (exit_of exit) tt s) step (kept_by machine.new) [] frame.now) }
 {
     match closed(program, frame, exit) {
@@ -290,7 +295,8 @@ pub fn leave<'a>(
     run: &mut Run<'a, '_>,
     exit: Leaving,
 ) -> Result<Step<'a>, OutOfMemory>
-    ensures { IfOk result (λ step. Advances program.now run.old (λ n s. leave (exit_of exit) tt s) step run.new) }
+    requires { AnotherSuffices (kept_by run.old.machine) }
+    ensures { IfOk result (λ step. Advances program.now 1 run.old (λ n s. leave (exit_of exit) tt s) step run.new) }
 {
     match run.work.pop() {
         None => finish(program, &mut run.machine, &run.frame, exit),

@@ -1,9 +1,10 @@
 //! Statements that are done at once, without anything that waits: where one isn't, the steps of `steps` do it.
 
-ghost use Rattle.sc_run.specs.Prelude.{Passes, PassesIf, assign, block_acts, c_arith, calls_in, ended_so, exit_of};
-ghost use Rattle.sc_run.specs.Prelude.{here_of, in_body, in_round, kept_by, leave, left_at, loop_acts, next_acts};
-ghost use Rattle.sc_run.specs.Prelude.{simple_does, stmt_acts, way_in};
-ghost use Rattle.std.specs.Prelude.{◌≡◌, ◌≤◌, ◌∷◌, IfSome, List, MatchOption, drop, length, suc, true};
+ghost use Rattle.sc_core.specs.Prelude.{stmt_nodes};
+ghost use Rattle.sc_run.specs.Prelude.{IsLess, Passes, PassesIf, assign, block_acts, block_nodes, c_arith, calls_in};
+ghost use Rattle.sc_run.specs.Prelude.{ended_so, exit_of, here_of, in_body, in_round, kept_by, leave, left_at};
+ghost use Rattle.sc_run.specs.Prelude.{loop_acts, next_acts, simple_does, stmt_acts, way_in};
+ghost use Rattle.std.specs.Prelude.{◌≡◌, ◌<◌, ◌≤◌, ◌∷◌, IfSome, List, MatchOption, drop, length, suc, true};
 
 use crate::state::Machine;
 use crate::work::{Frame, Leaving, Loop, Position};
@@ -68,8 +69,9 @@ fn chosen<'a>(
     frame: &Frame,
     stmt: &'a TypedStmt,
 ) -> Option<&'a [TypedStmt]>
-    ensures { IfSome result (λ part. Passes (kept_by machine.now) (kept_by machine.now)
+    ensures passes { IfSome result (λ part. Passes (kept_by machine.now) (kept_by machine.now)
         (λ n. stmt_acts program.now n frame.now stmt.now tt) (λ n. block_acts program.now n frame.now part.now tt)) }
+    ensures less { IfSome result (λ part. block_nodes part.now < stmt_nodes stmt.now) }
 {
     match &stmt.kind {
         TypedStmtKind::If {
@@ -97,9 +99,10 @@ fn left_of<'a>(
     frame: &Frame,
     stmt: &'a TypedStmt,
 ) -> Option<&'a [TypedStmt]>
-    ensures { MatchOption result (kept_by machine.new ≡ kept_by machine.old)
+    ensures passes { MatchOption result (kept_by machine.new ≡ kept_by machine.old)
         (λ rest. Passes (kept_by machine.old) (kept_by machine.new)
         (λ n. stmt_acts program.now n frame.now stmt.now tt) (λ n. block_acts program.now n frame.now rest.now tt)) }
+    ensures less { IfSome result (λ rest. block_nodes rest.now < stmt_nodes stmt.now) }
 {
     if is_done(program, machine, frame, stmt) {
         return Some(&[]);
@@ -117,6 +120,7 @@ pub fn done_first<'a>(
     stmts: &'a [TypedStmt],
 ) -> Option<Position<'a>>
     ensures within { IfSome result (λ at. at.count ≤ length stmts.now) }
+    ensures less { IfSome result (λ at. IsLess stmts.now at) }
     ensures passes { Passes (kept_by machine.old) (kept_by machine.new)
         (λ n. block_acts program.now n frame.now stmts.now tt) (left_at program.now frame.now stmts.now result) }
 {
@@ -228,6 +232,8 @@ pub fn done_rounds<'a>(
     whole: &Loop<'a>,
 ) -> Option<Position<'a>>
     ensures within { IfSome result (λ at. at.count ≤ length whole.now.body.now) }
+    ensures less { IfSome result (λ at. IsLess whole.now.body.now at) }
+    ensures taken { IfSome result (λ at. machine.new.turns < machine.old.turns) }
     ensures passes { Passes (kept_by machine.old) (kept_by machine.new)
         (λ n. loop_acts program.now n frame.now whole.now tt) (in_round program.now frame.now whole.now result) }
 {

@@ -1,6 +1,7 @@
 //! Whole runs.
 
-ghost use Rattle.sc_run.specs.Prelude.{Advances, EndsAs, does_now, kept_by, meaning, stopped_at};
+ghost use Rattle.sc_run.specs.Prelude.{Advances, AnotherSuffices, EndsAs, NumbersLast, does_now, kept_by, meaning};
+ghost use Rattle.sc_run.specs.Prelude.{now_weight, stopped_at};
 ghost use Rattle.sc_word.specs.Prelude.{word_of};
 ghost use Rattle.std.specs.Prelude.{◌≡◌, [], map, take, IfOk};
 
@@ -22,7 +23,8 @@ fn proceed<'a>(
     run: &mut Run<'a, '_>,
     now: Now<'a>,
 ) -> Result<Step<'a>, OutOfMemory>
-    ensures { IfOk result (λ step. Advances program.now run.old
+    requires { AnotherSuffices (kept_by run.old.machine) }
+    ensures { IfOk result (λ step. Advances program.now (now_weight now.entry) run.old
         (does_now program.now run.old.frame now.entry) step run.new) }
 {
     match now {
@@ -68,25 +70,24 @@ fn run_on<'a>(
     first: Now<'a>,
     events: u32,
 ) -> Result<RunEnd, OutOfMemory>
-    requires { run.old.work.items ≡ [] }
+    requires nothing_waits { run.old.work.items ≡ [] }
+    requires numbers { NumbersLast (now_weight first) (kept_by run.old.machine) [] }
     ensures { IfOk result (λ end. EndsAs program.now first.entry
         (kept_by run.old.machine) run.old.frame events run.new.machine.trace end) }
 {
     let mut now = first;
-    for _step in 0..u64::MAX {
-        if run.machine.trace.len() >= events as usize {
-            return Ok(RunEnd::EventsOut);
-        }
+    while run.machine.trace.len() < events as usize {
         match proceed(program, run, now) {
             Ok(Step::Stop(end)) => return Ok(end),
             Ok(Step::Go(next)) => now = next,
             Err(error) => return Err(error),
         }
     }
-    Err(OutOfMemory)
+    Ok(RunEnd::EventsOut)
 }
 
-/// Runs a program as its meaning says, with these inputs, up to `turns` turns and `events` events.
+/// Runs a program as its meaning says, with these inputs, up to `turns` turns and `events` events. The only error is
+/// memory that isn't given: no run has too many steps, or too many blocks.
 #[tactic(auto, using(crate::proofs::Counts::numbers_started))]
 pub fn run_source(
     alloc: Global,

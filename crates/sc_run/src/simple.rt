@@ -3,7 +3,7 @@
 ghost use Rattle.sc_core.specs.Prelude.{most_params};
 ghost use Rattle.sc_run.specs.Prelude.{Advances, Comes, Steps, and_then, assign, c_arith, call, calls_in, computed};
 ghost use Rattle.sc_run.specs.Prelude.{denotations, first_word, here_of, is_word, kept_by, may_call, next_input};
-ghost use Rattle.sc_run.specs.Prelude.{result_goes, simple_does, values, way_in};
+ghost use Rattle.sc_run.specs.Prelude.{AnotherSuffices, leaf_weight, result_goes, simple_does, values, way_in};
 ghost use Rattle.sc_event.specs.Prelude.{imports, is_function, takes};
 ghost use Rattle.std.specs.Prelude.{◌≡◌, ◌≤◌, ◌&&◌, IfOk, IsTrue, length, map, drop};
 ghost use Rattle.std.specs.List.{list_all};
@@ -55,7 +55,7 @@ fn call_own<'a>(
     args: &[Value],
     to: To<'a>,
 ) -> Result<Step<'a>, OutOfMemory>
-    ensures { IfOk result (λ step. Advances program.now run.old
+    ensures { IfOk result (λ step. Advances program.now leaf_weight run.old
         (λ n s. and_then (calls_in program.now n run.old.frame.scope.comp.now (CallTarget.Own number) args.now s)
         (result_goes program.now run.old.frame to.entry)) step run.new) }
 {
@@ -85,7 +85,7 @@ fn call_cross<'a>(
     args: &[Value],
     to: To<'a>,
 ) -> Result<Step<'a>, OutOfMemory>
-    ensures { IfOk result (λ step. Advances program.now run.old
+    ensures { IfOk result (λ step. Advances program.now leaf_weight run.old
         (λ n s. and_then (calls_in program.now n run.old.frame.scope.comp.now
         (CallTarget.Cross comp.now index) args.now s) (result_goes program.now run.old.frame to.entry)) step run.new) }
 {
@@ -130,7 +130,7 @@ fn call_input<'a>(
     args: &[Value],
     to: To<'a>,
 ) -> Result<Step<'a>, OutOfMemory>
-    ensures { IfOk result (λ step. Steps program.now (kept_by machine.old) work.now.items frame.now
+    ensures { IfOk result (λ step. Steps program.now leaf_weight (kept_by machine.old) work.now.items frame.now
         (λ n s. and_then (calls_in program.now n frame.now.scope.comp.now CallTarget.Input args.now s)
         (result_goes program.now frame.now to.entry)) step (kept_by machine.new) work.now.items frame.now) }
 {
@@ -158,7 +158,7 @@ fn call_output<'a>(
     args: &[Value],
     to: To<'a>,
 ) -> Result<Step<'a>, OutOfMemory>
-    ensures { IfOk result (λ step. Steps program.now (kept_by machine.old) work.now.items frame.now
+    ensures { IfOk result (λ step. Steps program.now leaf_weight (kept_by machine.old) work.now.items frame.now
         (λ n s. and_then (calls_in program.now n frame.now.scope.comp.now CallTarget.Output args.now s)
         (result_goes program.now frame.now to.entry)) step (kept_by machine.new) work.now.items frame.now) }
 {
@@ -179,7 +179,7 @@ fn called<'a>(
     args: &[Value],
     to: To<'a>,
 ) -> Result<Step<'a>, OutOfMemory>
-    ensures { IfOk result (λ step. Advances program.now run.old
+    ensures { IfOk result (λ step. Advances program.now leaf_weight run.old
         (λ n s. and_then (calls_in program.now n run.old.frame.scope.comp.now target.now args.now s)
         (result_goes program.now run.old.frame to.entry)) step run.new) }
 {
@@ -206,7 +206,7 @@ pub fn call<'a>(
     to: To<'a>,
     line: u32,
 ) -> Result<Step<'a>, OutOfMemory>
-    ensures { IfOk result (λ step. Advances program.now run.old
+    ensures { IfOk result (λ step. Advances program.now leaf_weight run.old
         (λ n s. and_then (call (here_of run.old.frame.scope) (calls_in program.now n) made.now.target
         (map (way_in run.old.frame) made.now.args) line s)
         (result_goes program.now run.old.frame to.entry)) step run.new) }
@@ -225,8 +225,8 @@ pub fn assigned<'a>(
     value: &TypedExpr,
     line: u32,
 ) -> Step<'a>
-    ensures { Advances program.now run.old (λ n. assign (here_of run.old.frame.scope) (way_in run.old.frame place.now)
-        (way_in run.old.frame value.now) line tt) result run.new }
+    ensures { Advances program.now leaf_weight run.old (λ n. assign (here_of run.old.frame.scope)
+        (way_in run.old.frame place.now) (way_in run.old.frame value.now) line tt) result run.new }
 {
     match assign(&mut run.machine, &run.frame, place, value, line) {
         Ok(()) => Step::Go(Now::Leave(Leaving::Next)),
@@ -240,7 +240,8 @@ pub fn simple<'a>(
     run: &mut Run<'a, '_>,
     part: &'a TypedSimple,
 ) -> Result<Step<'a>, OutOfMemory>
-    ensures { IfOk result (λ step. Advances program.now run.old
+    requires { AnotherSuffices (kept_by run.old.machine) }
+    ensures { IfOk result (λ step. Advances program.now leaf_weight run.old
         (λ n. simple_does c_arith run.old.frame.scope.structs.now
         (here_of run.old.frame.scope) run.old.frame.scope.params
         (calls_in program.now n) part.now.kind part.now.line tt) step run.new) }

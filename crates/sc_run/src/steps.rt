@@ -2,8 +2,9 @@
 
 ghost use Rattle.sc_run.specs.Prelude.{Advances, Next, Return, and_then, block_acts, choose, evaluated, follow};
 ghost use Rattle.sc_run.specs.Prelude.{here_of, in_order, leave, left_at, loop, loop_acts, part_acts, stmt_acts, test};
-ghost use Rattle.sc_run.specs.Prelude.{way_in};
-ghost use Rattle.std.specs.Prelude.{◌≤◌, IfOk, Some, length};
+ghost use Rattle.sc_run.specs.Prelude.{AnotherSuffices, block_nodes, block_weight, kept_by, leaf_weight, loop_weight};
+ghost use Rattle.sc_run.specs.Prelude.{place_weight, stmt_weight, way_in};
+ghost use Rattle.std.specs.Prelude.{◌≤◌, ◌+◌, ◌*◌, IfOk, Some, length};
 ghost use Rattle.sc_core.specs.declared.value.Want.TheVariants as want;
 
 use crate::heap::{free, malloc};
@@ -24,7 +25,7 @@ fn branch<'a>(
     first: &'a [TypedStmt],
     second: &'a [TypedStmt],
 ) -> Step<'a>
-    ensures { Advances program.now run.now (λ n s. and_then
+    ensures { Advances program.now (3 + 8 * (block_nodes first.now + block_nodes second.now)) run.now (λ n s. and_then
         (evaluated (here_of run.now.frame.scope) want.Value (way_in run.now.frame cond.now) line s)
         (λ v s. choose v (block_acts program.now n run.now.frame first.now tt s)
         (block_acts program.now n run.now.frame second.now tt s))) result run.now }
@@ -47,7 +48,7 @@ fn begin_round<'a>(
     run: &mut Run<'a, '_>,
     whole: &Loop<'a>,
 ) -> Result<Step<'a>, OutOfMemory>
-    ensures { IfOk result (λ step. Advances program.now run.old
+    ensures { IfOk result (λ step. Advances program.now (loop_weight whole.now) run.old
         (λ n. loop_acts program.now n run.old.frame whole.now tt) step run.new) }
 {
     match evaluated(
@@ -81,7 +82,7 @@ pub fn go_on<'a>(
     at: Position<'a>,
 ) -> Result<Step<'a>, OutOfMemory>
     requires { at.count ≤ length stmts.now }
-    ensures { IfOk result (λ step. Advances program.now run.old
+    ensures { IfOk result (λ step. Advances program.now (place_weight stmts.now at.entry) run.old
         (left_at program.now run.old.frame stmts.now (Some at.entry)) step run.new) }
 {
     let rest = &stmts[at.count..];
@@ -101,7 +102,7 @@ pub fn round<'a>(
     run: &mut Run<'a, '_>,
     whole: &Loop<'a>,
 ) -> Result<Step<'a>, OutOfMemory>
-    ensures { IfOk result (λ step. Advances program.now run.old
+    ensures { IfOk result (λ step. Advances program.now (loop_weight whole.now) run.old
         (λ n. loop_acts program.now n run.old.frame whole.now tt) step run.new) }
 {
     match done_rounds(program, &mut run.machine, &run.frame, whole) {
@@ -121,7 +122,7 @@ fn while_loop<'a>(
     body: &'a [TypedStmt],
     line: u32,
 ) -> Result<Step<'a>, OutOfMemory>
-    ensures { IfOk result (λ step. Advances program.now run.old
+    ensures { IfOk result (λ step. Advances program.now (block_weight body.now) run.old
         (λ n. loop (test (here_of run.old.frame.scope) (way_in run.old.frame cond.now) line)
         (block_acts program.now n run.old.frame body.now) (leave Next) tt) step run.new) }
 {
@@ -141,7 +142,8 @@ fn first_part<'a>(
     first: &'a Option<TypedSimple>,
     whole: &Loop<'a>,
 ) -> Result<Step<'a>, OutOfMemory>
-    ensures { IfOk result (λ step. Advances program.now run.old
+    requires { AnotherSuffices (kept_by run.old.machine) }
+    ensures { IfOk result (λ step. Advances program.now (2 + loop_weight whole.now) run.old
         (λ n s. follow in_order (part_acts program.now n run.old.frame first.now tt s)
         (loop_acts program.now n run.old.frame whole.now)) step run.new) }
 {
@@ -161,7 +163,7 @@ fn returned_value<'a>(
     value: &TypedExpr,
     line: u32,
 ) -> Step<'a>
-    ensures { Advances program.now run.now (λ n s. and_then
+    ensures { Advances program.now leaf_weight run.now (λ n s. and_then
         (evaluated (here_of run.now.frame.scope) want.Value (way_in run.now.frame value.now) line s)
         (λ v s. leave (Return (Some v)) tt s)) result run.now }
 {
@@ -177,7 +179,8 @@ fn statement<'a>(
     run: &mut Run<'a, '_>,
     stmt: &'a TypedStmt,
 ) -> Result<Step<'a>, OutOfMemory>
-    ensures { IfOk result (λ step. Advances program.now run.old
+    requires { AnotherSuffices (kept_by run.old.machine) }
+    ensures { IfOk result (λ step. Advances program.now (stmt_weight stmt.now) run.old
         (λ n. stmt_acts program.now n run.old.frame stmt.now tt) step run.new) }
 {
     let line = stmt.line;
@@ -245,7 +248,8 @@ fn run_first<'a>(
     run: &mut Run<'a, '_>,
     stmts: &'a [TypedStmt],
 ) -> Result<Step<'a>, OutOfMemory>
-    ensures { IfOk result (λ step. Advances program.now run.old
+    requires { AnotherSuffices (kept_by run.old.machine) }
+    ensures { IfOk result (λ step. Advances program.now (block_weight stmts.now) run.old
         (λ n s. block_acts program.now n run.old.frame stmts.now tt s) step run.new) }
 {
     match stmts {
@@ -266,7 +270,8 @@ pub fn run_list<'a>(
     run: &mut Run<'a, '_>,
     stmts: &'a [TypedStmt],
 ) -> Result<Step<'a>, OutOfMemory>
-    ensures { IfOk result (λ step. Advances program.now run.old
+    requires { AnotherSuffices (kept_by run.old.machine) }
+    ensures { IfOk result (λ step. Advances program.now (block_weight stmts.now) run.old
         (λ n s. block_acts program.now n run.old.frame stmts.now tt s) step run.new) }
 {
     match done_first(program, &mut run.machine, &run.frame, stmts) {

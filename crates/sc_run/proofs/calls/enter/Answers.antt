@@ -16,5 +16,6 @@ returns-in-Err c =
 pub returns-in_ok-next-in-Ok : goal.returns-in_ok-next-in-Ok
 returns-in_ok-next-in-Ok c =
     IfOk-weaker c.run_called.result _ _ (λ step h. enter_steps c.args.program.now c.args.run.now.frame c.args.callee.now
-    c.args.args.now c.args.to c.args.crossing c.requires.function c.in-Ok.ensures.comes c.in-Ok.ensures.taken
+    c.args.args.now c.args.to c.args.crossing c.requires.variables c.requires.function c.in-Ok.ensures.comes
+    c.in-Ok.ensures.taken
     c.in_ok-emit_call-in-Ok.ensures c.in_ok-next-in-Ok.ensures refl h) c.run_called.ensures

@@ -1,8 +1,11 @@
-use Rattle.sc_run.proofs.Common.{here_of, kept_by, memory_of, refl, sym, ◌∙◌}
+use Rattle.sc_run.proofs.Common.{arith, here_of, kept_by, memory_of, sym, ◌∙◌}
 use Rattle.sc_blocks.specs.Rows.{free_place}
 use Rattle.sc_run.proofs.Coming.{allocated_as}
 use Rattle.sc_run.proofs.Numbers.{numbers_asked}
 use Rattle.sc_run.proofs.heap.allocated.Goals as goal
+
+pub allocate-requires : goal.allocate-requires
+allocate-requires c = omega (arith, c.requires c.args.frame.now.scope.comp.now)
 
 pub invariant_of-machine : goal.invariant_of-machine
 invariant_of-machine c =
@@ -10,7 +13,7 @@ invariant_of-machine c =
     record {
       numbers = numbers_asked c.allocate.result comp c.args.words
           (free_place (memory_of c.args.machine.now.blocks comp) c.args.words) c.allocate.ensures.made
-          c.allocate.ensures.err (c.if-not-has_number.ensures refl) c.args.machine.now.numbers;
+          c.allocate.ensures.err (c.requires comp) c.args.machine.now.numbers;
     }
 
 pub returns-in-Some : goal.returns-in-Some

@@ -1,4 +1,4 @@
-use Rattle.sc_run.proofs.Common.{here_of, kept_by}
+use Rattle.sc_run.proofs.Common.{arith, here_of, kept_by}
 use Rattle.sc_run.proofs.Making.{started_more, started_blamed, started_all}
 use Rattle.sc_run.proofs.machine.init_all.Goals as goal
 
@@ -21,3 +21,6 @@ returns-in-Err c =
     started_blamed f.scope.structs.now (here_of f.scope) f.scope.params f.function.now.locals c.loop-at.at
     (rw c.as_slice-locals.ensures at c.loop-at-test.true) (rw c.as_slice-locals.ensures at c.index-locals-at.is)
     c.loop-at.invariant c.in-Err.ensures
+
+pub loop-at-init : goal.loop-at-init
+loop-at-init c = record { fewer = omega arith; lengths = λ comp. omega arith; on = λ after r h. h }

@@ -1,4 +1,4 @@
-use Rattle.sc_run.proofs.Common.{Some, [], refl}
+use Rattle.sc_run.proofs.Common.{Some, [], refl, ap, arith}
 use Rattle.sc_run.proofs.Ahead.{after_body, body_done, round_done, stays_so, then_passes, turns_fall, unchanged}
 use Rattle.sc_run.proofs.plain.done_rounds.Goals as goal
 
@@ -27,3 +27,26 @@ returns-then-not-is_next_done-clause-passes c =
     (record { ref_ptr = c.args.whole.now.body.ref_ptr; now = [] })
     (then_passes c.loop-machine.invariant c.loop-machine-test.ensures.passes) c.in_default.ensures.passes refl)
     (unchanged c.if-not-is_next_done.ensures)
+
+pub returns-in-Some-clause-taken : goal.returns-in-Some-clause-taken
+returns-in-Some-clause-taken c = omega (
+  arith,
+  c.loop-machine.invariant.fewer,
+  c.loop-machine-test.ensures.taken refl,
+  c.in-Some.ensures.passes.fewer,
+)
+
+pub returns-then-not-is_next_done-clause-taken : goal.returns-then-not-is_next_done-clause-taken
+returns-then-not-is_next_done-clause-taken c = omega (
+  arith,
+  c.loop-machine.invariant.fewer,
+  c.loop-machine-test.ensures.taken refl,
+  c.in_default.ensures.passes.fewer,
+  ap (λ x. x.turns) c.if-not-is_next_done.ensures,
+)
+
+pub returns-then-not-is_next_done-clause-less : goal.returns-then-not-is_next_done-clause-less
+returns-then-not-is_next_done-clause-less c = omega arith
+
+pub returns-in-Some-clause-less : goal.returns-in-Some-clause-less
+returns-in-Some-clause-less c = c.in-Some.ensures.less

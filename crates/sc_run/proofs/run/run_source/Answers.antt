@@ -3,6 +3,7 @@ use Rattle.sc_word.specs.Prelude.{word_of}
 use Rattle.sc_run.proofs.Counts.{numbers_at_first, numbers_started, sections_small}
 use Rattle.sc_run.proofs.Whole.{gone_through, over_at_once, seen_at_first}
 use Rattle.sc_run.specs.Numbers.{HaveSmallGlobals}
+use Rattle.sc_run.proofs.Lasting.{lasts_after, lasts_at_first}
 use Rattle.sc_run.proofs.run.run_source.Goals as goal
 
 pub first_blocks-requires : goal.first_blocks-requires
@@ -48,3 +49,10 @@ returns-in_ok-end-in-Go c =
     (subst (λ p. EntryAt program p.interfaces.main Main (Some c.in-Some.callee)) c.tree-tree.ensures.tree
     c.in-Some.ensures.found) c.in_ok-frame.ensures (rw c.new-work.ensures.items at c.start.ensures)
     c.run_on.new.run.machine.trace _ c.in-Go.is c.in_ok-end-in-Go.ensures c.behaviour-in-Go.ensures
+
+pub run_on-requires-clause-numbers : goal.run_on-requires-clause-numbers
+run_on-requires-clause-numbers c =
+    let last = lasts_at_first c.args.program.now c.tree-tree.ensures.typed (c.in_ok-globals.ensures ∙
+    ap globals_of (c.as_slice.ensures ∙ ap (λ p. p.sections) c.tree-tree.ensures.tree)) (omega arith)
+    c.in-Some.ensures.variables c.in_ok-frame.ensures in
+    lasts_after ((rw c.new-work.ensures.items at c.start.ensures).falls last.light tt) c.in-Go.is last

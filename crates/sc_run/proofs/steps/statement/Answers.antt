@@ -1,68 +1,74 @@
 use Rattle.sc_run.proofs.Common.{IfOk-weaker, option_copied, refl, rolls-Assign, rolls-AssignCall, rolls-Break}
 use Rattle.sc_run.proofs.Common.{rolls-Call, rolls-Continue, rolls-Empty, rolls-For, rolls-Free, rolls-If, rolls-Malloc}
-use Rattle.sc_run.proofs.Common.{rolls-Return, rolls-ReturnCall, rolls-ReturnValue, rolls-While, sym, ◌∙◌}
-use Rattle.sc_core.specs.declared.stmt.TypedStmtKind.TheOpen as layer
+use Rattle.sc_run.proofs.Common.{rolls-Return, rolls-ReturnCall, rolls-ReturnValue, rolls-While, sym, ◌∙◌, arith}
 use Rattle.sc_run.proofs.Looping.{steps_later}
 use Rattle.sc_run.proofs.Stating.{stmt_as}
+use Rattle.sc_core.specs.declared.stmt.TypedStmtKind.TheOpen as layer
 use Rattle.sc_run.proofs.steps.statement.Goals as goal
 
 pub returns-in-Empty : goal.returns-in-Empty
-returns-in-Empty c = stmt_as c.args.stmt.now layer.Empty (c.in-Empty.is ∙ sym rolls-Empty) (steps_later (λ n s. refl))
+returns-in-Empty c = stmt_as c.args.stmt.now layer.Empty (c.in-Empty.is ∙ sym rolls-Empty) (omega arith)
+    (steps_later {cost = 2} (omega arith) (λ n s. refl))
 
 pub returns-in-Break : goal.returns-in-Break
-returns-in-Break c = stmt_as c.args.stmt.now layer.Break (c.in-Break.is ∙ sym rolls-Break) (steps_later (λ n s. refl))
+returns-in-Break c = stmt_as c.args.stmt.now layer.Break (c.in-Break.is ∙ sym rolls-Break) (omega arith)
+    (steps_later {cost = 2} (omega arith) (λ n s. refl))
 
 pub returns-in-Continue : goal.returns-in-Continue
 returns-in-Continue c =
-    stmt_as c.args.stmt.now layer.Continue (c.in-Continue.is ∙ sym rolls-Continue) (steps_later (λ n s. refl))
+    stmt_as c.args.stmt.now layer.Continue (c.in-Continue.is ∙ sym rolls-Continue) (omega arith)
+    (steps_later {cost = 2} (omega arith) (λ n s. refl))
 
 pub returns-in-Return : goal.returns-in-Return
 returns-in-Return c =
-    stmt_as c.args.stmt.now layer.Return (c.in-Return.is ∙ sym rolls-Return) (steps_later (λ n s. refl))
+    stmt_as c.args.stmt.now layer.Return (c.in-Return.is ∙ sym rolls-Return) (omega arith)
+    (steps_later {cost = 2} (omega arith) (λ n s. refl))
 
 pub returns-in-Assign : goal.returns-in-Assign
 returns-in-Assign c = stmt_as c.args.stmt.now (layer.Assign c.get.result.now c.in-Assign.value)
-    (rw c.get.ensures.value (c.in-Assign.is ∙ sym (rolls-Assign _ _))) c.assigned.ensures
+    (rw c.get.ensures.value (c.in-Assign.is ∙ sym (rolls-Assign _ _))) (omega arith) c.assigned.ensures
 
 pub returns-in-AssignCall : goal.returns-in-AssignCall
 returns-in-AssignCall c = IfOk-weaker c.call.result _ _ (λ step h. stmt_as c.args.stmt.now
     (layer.AssignCall c.get-in-AssignCall.result.now c.in-AssignCall.made)
-    (rw c.get-in-AssignCall.ensures.value (c.in-AssignCall.is ∙ sym (rolls-AssignCall _ _))) h) c.call.ensures
+    (rw c.get-in-AssignCall.ensures.value (c.in-AssignCall.is ∙ sym (rolls-AssignCall _ _))) (omega arith) h)
+    c.call.ensures
 
 pub returns-in-Call : goal.returns-in-Call
 returns-in-Call c = IfOk-weaker c.call-in-Call.result _ _ (λ step h. stmt_as c.args.stmt.now (layer.Call c.in-Call.made)
-    (c.in-Call.is ∙ sym (rolls-Call _)) h) c.call-in-Call.ensures
+    (c.in-Call.is ∙ sym (rolls-Call _)) (omega arith) h) c.call-in-Call.ensures
 
 pub returns-in-Malloc : goal.returns-in-Malloc
 returns-in-Malloc c = IfOk-weaker c.malloc.result _ _ (λ step h. stmt_as c.args.stmt.now
     (layer.Malloc c.get-in-Malloc.result.now c.in-Malloc.count c.in-Malloc.cells)
-    (rw c.get-in-Malloc.ensures.value (c.in-Malloc.is ∙ sym (rolls-Malloc _ _ _))) h) c.malloc.ensures
+    (rw c.get-in-Malloc.ensures.value (c.in-Malloc.is ∙ sym (rolls-Malloc _ _ _))) (omega arith) h) c.malloc.ensures
 
 pub returns-in-Free : goal.returns-in-Free
 returns-in-Free c = stmt_as c.args.stmt.now (layer.Free c.in-Free.pointer) (c.in-Free.is ∙ sym (rolls-Free _))
-    c.free.ensures
+    (omega arith) c.free.ensures
 
 pub returns-in-ReturnCall : goal.returns-in-ReturnCall
 returns-in-ReturnCall c = IfOk-weaker c.call-in-ReturnCall.result _ _ (λ step h. stmt_as c.args.stmt.now
-    (layer.ReturnCall c.in-ReturnCall.made) (c.in-ReturnCall.is ∙ sym (rolls-ReturnCall _))
+    (layer.ReturnCall c.in-ReturnCall.made) (c.in-ReturnCall.is ∙ sym (rolls-ReturnCall _)) (omega arith)
     h) c.call-in-ReturnCall.ensures
 
 pub returns-in-ReturnValue : goal.returns-in-ReturnValue
 returns-in-ReturnValue c = stmt_as c.args.stmt.now (layer.ReturnValue c.in-ReturnValue.value)
-    (c.in-ReturnValue.is ∙ sym (rolls-ReturnValue _)) c.returned_value.ensures
+    (c.in-ReturnValue.is ∙ sym (rolls-ReturnValue _)) (omega arith) c.returned_value.ensures
 
 pub returns-in-If : goal.returns-in-If
 returns-in-If c = stmt_as c.args.stmt.now
     (layer.If c.in-If.cond c.as_slice.result.now c.as_slice-in-If.result.now)
-    (rw (c.as_slice.ensures, c.as_slice-in-If.ensures) (c.in-If.is ∙ sym (rolls-If _ _ _))) c.branch-program.ensures
+    (rw (c.as_slice.ensures, c.as_slice-in-If.ensures) (c.in-If.is ∙ sym (rolls-If _ _ _))) (omega arith)
+    c.branch-program.ensures
 
 pub returns-in-While : goal.returns-in-While
 returns-in-While c = IfOk-weaker c.while_loop.result _ _ (λ step h. stmt_as c.args.stmt.now
     (layer.While c.in-While.cond c.as_slice-body.result.now)
-    (rw c.as_slice-body.ensures (c.in-While.is ∙ sym (rolls-While _ _))) h) c.while_loop.ensures
+    (rw c.as_slice-body.ensures (c.in-While.is ∙ sym (rolls-While _ _))) (omega arith) h) c.while_loop.ensures
 
 pub returns-in-For : goal.returns-in-For
 returns-in-For c = IfOk-weaker c.first_part.result _ _ (λ step h. stmt_as c.args.stmt.now
     (layer.For c.in-For.first c.in-For.cond (option_copied c.as_ref.result) c.as_slice-in-For.result.now)
-    (rw (c.as_ref.ensures.value, c.as_slice-in-For.ensures) (c.in-For.is ∙ sym (rolls-For _ _ _ _))) h)
+    (rw (c.as_ref.ensures.value, c.as_slice-in-For.ensures) (c.in-For.is ∙ sym (rolls-For _ _ _ _))) (omega arith) h)
     c.first_part.ensures
