@@ -1,4 +1,5 @@
 //! The program over sources and sinks in memory.
+use crate::byte_by_byte::{ByteSink, ByteSource};
 use sc_base::OutOfMemory;
 use sc_edge::{MemSink, MemSource};
 use sc_top::secomp;
@@ -39,10 +40,7 @@ impl<'a> Run<'a> {
 
     /// Runs the program.
     pub fn run(self, alloc: Global) -> Result<Ran, OutOfMemory> {
-        let mut words = Vec::new(alloc);
-        for word in self.words.split_ascii_whitespace() {
-            words.push(word.to_string(alloc)?)?;
-        }
+        let words = words_of(alloc, self.words)?;
         let mut source = MemSource::new(alloc, self.input, self.failing_reads)?;
         let mut out = MemSink::new(alloc, self.room, self.failing_writes)?;
         let mut err = MemSink::new(alloc, self.error_room, &[])?;
@@ -54,6 +52,30 @@ impl<'a> Run<'a> {
             unread: source.left().len(),
         })
     }
+
+    /// Runs the program on ends that move one byte at a call. No read fails.
+    pub fn run_by_bytes(self, alloc: Global) -> Result<Ran, OutOfMemory> {
+        let words = words_of(alloc, self.words)?;
+        let mut source = ByteSource::new(self.input);
+        let mut out = ByteSink::new(MemSink::new(alloc, self.room, self.failing_writes)?);
+        let mut err = ByteSink::new(MemSink::new(alloc, self.error_room, &[])?);
+        let status = secomp(alloc, &words, &mut source, &mut out, &mut err);
+        Ok(Ran {
+            status: status.number(),
+            out: out.written().to_vec(alloc)?,
+            err: err.written().to_vec(alloc)?,
+            unread: source.left().len(),
+        })
+    }
+}
+
+// The words between blanks.
+fn words_of(alloc: Global, line: &str) -> Result<Vec<String>, OutOfMemory> {
+    let mut words = Vec::new(alloc);
+    for word in line.split_ascii_whitespace() {
+        words.push(word.to_string(alloc)?)?;
+    }
+    Ok(words)
 }
 
 /// What a run answered, what it wrote, and how many bytes of the input it left.

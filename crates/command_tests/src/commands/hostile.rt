@@ -200,6 +200,24 @@ fn a_write_that_fails_is_reported_at_every_call(rt: HostRuntime) -> Result<(), F
 }
 
 #[test]
+fn ends_that_move_a_byte_at_a_call_change_nothing(rt: HostRuntime) -> Result<(), Fail> {
+    for (words, input) in RUNS {
+        let whole = Run::new(words, input).run(rt.alloc())?;
+        let ran = Run::new(words, input).run_by_bytes(rt.alloc())?;
+        assert!(rt; ran.wrote(whole.status, &whole.out, &whole.err));
+    }
+    let ran = Run::new("check", b"x").run_by_bytes(rt.alloc())?;
+    assert!(rt; ran.wrote(3, b"", b"secomp: refused syntax line 1\n"));
+    let run = Run {
+        room: 9,
+        ..Run::new("meaning", SEVEN)
+    };
+    let ran = run.run_by_bytes(rt.alloc())?;
+    assert!(rt; ran.wrote(8, b"out Main ", b"secomp: write fault\n"));
+    Ok(())
+}
+
+#[test]
 fn an_error_that_is_not_written_changes_no_status(rt: HostRuntime) -> Result<(), Fail> {
     let cases: [(&str, &[u8], u8); 4] = [
         ("nonsense", SEVEN, 2),
