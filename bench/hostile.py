@@ -168,8 +168,11 @@ class Broken:
         return bytes(data)
 
     def image(self, draw):
-        """An image that is broken."""
-        return ["exec", "--steps", "20000", "--events", "64"], self.broken_bytes(draw, self.images)
+        """An image that is broken, for one of the two machines, the one with tags with or without a range."""
+        start = draw.choice([0x01000000, 0x01100000, 0x10000000, 0x10004000, draw.randrange(2 ** 32)]) + draw.choice([0, 1, 4, 8])
+        size = min(draw.choice([0, 1, 4, 64]), 2 ** 32 - start % 2 ** 32)
+        ranged = ["tags", "--data", "%d,%d,%d" % (start % 2 ** 32, size, draw.randrange(4))]
+        return draw.choice([["exec"], ["tags"], ranged]) + ["--steps", "20000", "--events", "64"], self.broken_bytes(draw, self.images)
 
     def joined(self, draw):
         """Objects that are broken."""
@@ -212,6 +215,8 @@ class Broken:
         if kind == "images":
             cause = image_cause(data)
             wanted = (0, b"") if cause is None else (6, b"secomp: bad image %d\n" % cause)
+            if words[0] == "tags" and "--data" not in words and ran[:3] != self.run(["exec", *words[1:]], data)[:3]:
+                return "the machine with regions does something else"
         elif kind == "objects":
             status, error = link_answer(data)
             wanted = status, b"secomp: %s\n" % error.encode() if error else b""
