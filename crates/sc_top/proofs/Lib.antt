@@ -8,6 +8,7 @@ pub mod Executed
 pub mod Known
 pub mod Large
 pub mod Lengths
+pub mod Linked
 pub mod Made
 pub mod Objects
 pub mod Outputs

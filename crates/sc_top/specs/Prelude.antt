@@ -20,7 +20,7 @@ pub use Rattle.sc_top.specs.Failure.{IsInputCause, IsJoining, IsOutputCause, of_
 pub use Rattle.sc_top.specs.Failure.{of_objects_fault, of_policy_fault, of_read_fault, of_text_fault, of_words_fault}
 pub use Rattle.sc_top.specs.Failure.{status_by, status_of}
 pub use Rattle.sc_top.specs.Fetching.{Fetches}
-pub use Rattle.sc_top.specs.Laws.{CompiledImagesRun, RunsAs}
+pub use Rattle.sc_top.specs.Laws.{AreAllObjects, CompiledImagesRun, LinkingIsCompiling, LinksTo, RunsAs}
 pub use Rattle.sc_top.specs.Objects.{CanBeLinked, HasBadJoin, HasBadObject, HasSection, IsLinked, bad_join_in}
 pub use Rattle.sc_top.specs.Objects.{comp_named, face_name, join_by_name, section_of}
 pub use Rattle.sc_top.specs.Output.{IsObjectOutput}

@@ -1,13 +1,13 @@
 //! What holds of every text.
 
 ghost use Rattle.sc_base.specs.Prelude.{most_image};
-ghost use Rattle.sc_top.specs.Prelude.{Command, CompiledImagesRun, IsAnswer, IsOutput, SameAnswer};
+ghost use Rattle.sc_top.specs.Prelude.{Command, CompiledImagesRun, IsAnswer, IsOutput, LinkingIsCompiling, SameAnswer};
 ghost use Rattle.sc_image.specs.Prelude.{IsImage};
 ghost use Rattle.std.specs.Prelude.{◌≡◌, ◌≤◌, ℕ, List, length};
 ghost use Rattle.sc_top.specs.declared.status.Status.{Status};
 
 use sc_image::one_image;
-use sc_object::{bytes_name_one_list, one_first_bad};
+use sc_object::{bytes_name_one_list, link_is_compile, one_first_bad};
 use sc_policy::{one_policy, policy_or_bad};
 use sc_types::{accepted_or_refused, one_phase, one_program};
 
@@ -48,4 +48,14 @@ pub fn compiled_images_run()
 {
     one_program();
     one_image();
+}
+
+/// What `object` writes for all sections of a text is good input of `link`, which writes for it what `compile` writes
+/// for the text, in whatever order the objects come.
+pub fn linking_is_compiling()
+    ensures { LinkingIsCompiling }
+{
+    one_program();
+    bytes_name_one_list();
+    link_is_compile();
 }

@@ -18,7 +18,9 @@ mod status;
 mod text;
 mod top;
 
-pub use laws::{compiled_images_run, images_are_within, one_answer, one_output};
+pub use laws::{
+    compiled_images_run, images_are_within, linking_is_compiling, one_answer, one_output,
+};
 pub use printing::print;
 pub use status::{BadJoin, Status, TooLarge};
 pub use top::secomp;
