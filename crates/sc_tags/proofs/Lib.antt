@@ -1,5 +1,6 @@
 mod Common
 mod Linear
+mod KnownEvents
 mod Lifting
 mod Owners
 mod Agree

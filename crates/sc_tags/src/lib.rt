@@ -5,5 +5,5 @@
 mod laws;
 mod tag;
 
-pub use laws::{capabilities_are_linear, tags_agree};
+pub use laws::{capabilities_are_linear, tag_traces_are_known, tags_agree};
 pub use tag::{ByteTag, TagRange};
