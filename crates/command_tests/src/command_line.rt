@@ -151,6 +151,6 @@ fn usage_fits_a_page(rt: HostRuntime) {
         }
         assert!(rt; width <= 80);
     }
-    assert!(rt; lines <= 30 && width == 0);
+    assert!(rt; lines <= 24 && width == 0);
     assert!(rt; usage().starts_with(b"secomp: usage\n"));
 }
