@@ -37,7 +37,7 @@ abbrev count : (c : ℕ) → List ObjectParts → ℕ
 count c objects = sum_by (is_own c) objects
 
 counts : (c : ℕ) (object : ObjectParts) → object.own ≡ c → is_own c object ≡ 1
-counts c object own = ap (λ here. cond here 1 0) (eq-eqb object.own c own)
+counts c object own = ap {B = ℕ} (λ here. cond here 1 0) (eq-eqb object.own c own)
 
 -- where objects are numbered from k on, at most one is of compartment c, and none where c is less
 record IsFew (c k : ℕ) (objects : List ObjectParts) : Type 0 where
@@ -55,13 +55,13 @@ few c k (object ∷ objects) own =
 
     by : IsFew c (suc k) objects → (here : Bool) → (object.own == c) ≡ here → IsFew c k (object ∷ objects)
     by later true same =
-        let one = ap (λ here. cond here 1 0) same in
+        let one : is_own c object ≡ 1 = ap {B = ℕ} (λ here. cond here 1 0) same in
         let is = eqb-true object.own c same in
         let at = own 0 object refl in
         let none = later.none (omega (arith, is, at)) in
         record { few = omega (arith, sum, one, none); none = λ low. absurd (omega (arith, low, is, at)) }
     by later false same =
-        let no = ap (λ here. cond here 1 0) same in
+        let no : is_own c object ≡ 0 = ap {B = ℕ} (λ here. cond here 1 0) same in
         let most = later.few in
         record {
           few = omega (arith, sum, no, most);
@@ -116,7 +116,8 @@ module _ (image : ImageParts) (start objects : List ObjectParts) (as_many : leng
 
   at_most_one : (c : ℕ) → count c objects ≤ 1
   at_most_one c =
-      omega (arith, sum_by-IsPermutation (is_own c) start objects moved, (few c 0 start own_at).few)
+      let first = few c 0 start (λ i object there. own_at i object there ∙ omega arith) in
+      omega (arith, sum_by-IsPermutation (is_own c) start objects moved, first.few)
 
   has_all : (c : ℕ) → c < length image.comps →
       (i : ℕ) × (object : ObjectParts) × (slice_get objects i ≡ Some object) × (object.own ≡ c)
@@ -288,6 +289,7 @@ module _ (one_program : (text : List ℕ) (program other : ProgramTree) →
       linked.written ∙ (ap image_bytes joined ∙ sym is.written)
 
   from_image : (out : List ℕ) → out ≡ image → IsLinked (concat objects) out
+  unfolding can
   from_image out same =
       let head = is_there parts 0 some in
       let joins : IsJoined parts (join_as head.0 parts) =

@@ -19,7 +19,7 @@ pub(crate) fn link(alloc: Global, bytes: Text) -> Result<Text, Failure>
     ensures cause { IfErr result (IsOutputCause Link bytes) }
 {
     let objects = read(alloc, bytes)?;
-    let image = linked(alloc, objects)?;
+    let image = joined(alloc, objects)?;
     // Every image is well formed.
     let _parts = image.parts();
     Ok(write_image(alloc, &image)?)
@@ -35,13 +35,21 @@ fn read(alloc: Global, bytes: Text) -> Result<Objects, Failure>
 }
 
 // The image, for the objects.
-fn linked(alloc: Global, objects: Objects) -> Result<Image, Failure>
+fn joined(alloc: Global, objects: Objects) -> Result<Image, Failure>
     ensures image { IfOk result (IsJoined objects) }
     ensures good { IfOk result (λ _. join_fault objects ≡ None) }
     ensures cause { IfErr result (IsJoining objects) }
 {
-    match link_objects(alloc, &objects) {
+    linked(alloc, &objects)
+}
+
+fn linked(alloc: Global, objects: &Objects) -> Result<Image, Failure>
+    ensures image { IfOk result (IsJoined objects.now) }
+    ensures good { IfOk result (λ _. join_fault objects.now ≡ None) }
+    ensures cause { IfErr result (IsJoining objects.now) }
+{
+    match link_objects(alloc, objects) {
         Ok(image) => Ok(image),
-        Err(fault) => Err(join_failure(&objects, fault)),
+        Err(fault) => Err(join_failure(objects, fault)),
     }
 }

@@ -4,5 +4,5 @@ use Rattle.sc_top.proofs.link.linked.Goals as goal
 
 pub returns-in-Err-clause-cause : goal.returns-in-Err-clause-cause
 returns-in-Err-clause-cause c =
-    subst (IsJoining c.args.objects) (sym c.join_failure.ensures)
-    (why_not_joined c.args.objects c.in-Err.fault c.in-Err.ensures.fault)
+    subst (IsJoining c.args.objects.now) (sym c.join_failure.ensures)
+    (why_not_joined c.args.objects.now c.in-Err.fault c.in-Err.ensures.fault)
