@@ -10,4 +10,5 @@ mod meaning;
 mod objects;
 mod refusal;
 mod runs;
+mod tags;
 mod words;

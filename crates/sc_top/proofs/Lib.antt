@@ -13,3 +13,4 @@ pub mod Made
 pub mod Objects
 pub mod Outputs
 pub mod Streams
+pub mod TaggedRuns

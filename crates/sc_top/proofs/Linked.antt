@@ -108,8 +108,7 @@ module _ (image : ImageParts) (start objects : List ObjectParts) (as_many : leng
 
   own_there : (i : ℕ) (object : ObjectParts) → slice_get start i ≡ Some object → IsOwn object
   own_there i object there =
-      let own = own_at i object there in
-      (
+      let own = own_at i object there in (
         omega (arith, own, as_many, slice_get_within start i object there),
         numbered i object there ∙ ap (object_of image) (sym own),
       )

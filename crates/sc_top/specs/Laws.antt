@@ -1,13 +1,16 @@
 -- What holds of all outputs.
 use Rattle.sc_top.specs.Common.{Accepts, Command, ProgramTree}
-use Rattle.std.specs.Prelude.{◌↔◌, ◌≡◌, List, map, ℕ}
+use Rattle.std.specs.Prelude.{◌↔◌, ◌≡◌, List, None, map, ℕ}
 use Rattle.std.specs.List.{AllZip, concat}
 use Rattle.std.specs.List.Sorted.{IsPermutation}
 use Rattle.sc_event.specs.declared.interface.Interface.{Interface}
-use Rattle.sc_top_words.specs.declared.command.Command.TheVariants.{Compile, Exec, Link, Object, Run}
+use Rattle.sc_top_words.specs.declared.command.Command.TheVariants.{Compile, Exec, Link, Object, Run, Tags}
 use Rattle.sc_top_words.specs.declared.command.RunOptions.{RunOptions}
 use Rattle.sc_top.specs.Answer.{IsGood, IsWithin}
-use Rattle.sc_top.specs.Output.{IsOutput}
+use Rattle.sc_top.specs.Output.{HasExplanation, HasImage, IsOutput}
+use Rattle.sc_top.specs.Tagged.{tag_run}
+use Rattle.sc_core.specs.declared.explanation.Explanation.{Explanation}
+use Rattle.sc_image.specs.declared.parts.ImageParts.{ImageParts}
 
 -- these bytes are good input of `exec`, which writes for them what `run` writes for the text
 pub record RunsAs (options : RunOptions) (text bytes : List ℕ) : Type 0 where
@@ -41,3 +44,20 @@ abbrev pub LinkingIsCompiling : Type 0
 LinkingIsCompiling =
     (text image : List ℕ) (objects : List (List ℕ)) → IsOutput Compile text image → AreAllObjects text objects →
     LinksTo image (concat objects)
+
+-- without a range `tags` writes what `exec` writes, whatever the bytes
+abbrev pub TagsRunAsExec : Type 0
+TagsRunAsExec =
+    (options : RunOptions) (bytes out : List ℕ) →
+    IsOutput (Tags options None) bytes out ↔ IsOutput (Exec options) bytes out
+
+-- without a range the machine with tags has this trace on an image, and stops so
+pub record IsTaggedRun (options : RunOptions) (explanation : Explanation) (image : ImageParts) : Type 0 where
+  pub trace : (tag_run options None image).state.core.trace ≡ explanation.trace
+  pub stop : (tag_run options None image).stop ≡ explanation.stop
+
+-- the trace and the stop that `explain` accounts for are also those of the machine with tags on the program's image
+abbrev pub ExplainedAreTagged : Type 0
+ExplainedAreTagged =
+    (options : RunOptions) (text : List ℕ) (has : HasExplanation options text) (image : ImageParts) →
+    HasImage has.source.program image → IsTaggedRun options has.explanation image

@@ -1,7 +1,8 @@
 //! What holds of every text.
 
 ghost use Rattle.sc_base.specs.Prelude.{most_image};
-ghost use Rattle.sc_top.specs.Prelude.{Command, CompiledImagesRun, IsAnswer, IsOutput, LinkingIsCompiling, SameAnswer};
+ghost use Rattle.sc_top.specs.Prelude.{Command, CompiledImagesRun, ExplainedAreTagged, IsAnswer, IsOutput};
+ghost use Rattle.sc_top.specs.Prelude.{LinkingIsCompiling, SameAnswer, TagsRunAsExec};
 ghost use Rattle.sc_image.specs.Prelude.{IsImage};
 ghost use Rattle.std.specs.Prelude.{◌≡◌, ◌≤◌, ℕ, List, length};
 ghost use Rattle.sc_top.specs.declared.status.Status.{Status};
@@ -9,6 +10,7 @@ ghost use Rattle.sc_top.specs.declared.status.Status.{Status};
 use sc_image::one_image;
 use sc_object::{bytes_name_one_list, link_is_compile, one_first_bad};
 use sc_policy::{one_policy, policy_or_bad};
+use sc_tags::tags_agree;
 use sc_types::{accepted_or_refused, one_phase, one_program};
 
 /// An image is never longer than the command takes that reads it.
@@ -58,4 +60,18 @@ pub fn linking_is_compiling()
     one_program();
     bytes_name_one_list();
     link_is_compile();
+}
+
+/// Without a range `tags` writes for an image what `exec` writes for it.
+pub fn tags_run_as_exec()
+    ensures { TagsRunAsExec }
+{
+    tags_agree();
+}
+
+/// The trace that `explain` accounts for, and why it stops, are those of the machine with tags, too.
+pub fn explained_are_tagged()
+    ensures { ExplainedAreTagged }
+{
+    tags_agree();
 }

@@ -17,6 +17,7 @@ use crate::make::make;
 use crate::object::object;
 use crate::output::write_text;
 use crate::printing::print;
+use crate::tags::tags;
 use crate::text::{check, compiled, meaning, run};
 use sc_base::Text;
 use sc_edge::{Sink, Source};
@@ -120,6 +121,7 @@ fn output(alloc: Global, command: &Command, bytes: Text) -> Result<Text, Failure
         Command::Link => link(alloc, bytes),
         Command::Run(options) => run(alloc, options, bytes.as_bytes()),
         Command::Exec(options) => execute(alloc, options, bytes.as_bytes()),
+        Command::Tags(options, range) => tags(alloc, options, *range, bytes.as_bytes()),
         Command::Explain(options, show) => explain(alloc, options, *show, bytes.as_bytes()),
         Command::Judge(options) => judge(alloc, options, bytes.as_bytes()),
         Command::Make(options) => Ok(make(alloc, options)?),

@@ -19,12 +19,14 @@ usage_text = lines_text (
     codes "  explain   the same, and the sections to replace so that the source does it too" ∷
     codes "  judge     the same for a text after a policy, and what the policy says of it" ∷
     codes "  exec      what the machine does on an image" ∷
+    codes "  tags      what a machine that protects by tags on bytes does on an image" ∷
     codes "  make      a program made from two numbers, with no input" ∷
     codes "options, each at most once; in parentheses what holds where one is not given" ∷
     codes "  --turns N    meaning: at most N turns, 0 to 16777216 (1000000)" ∷
-    codes "  --steps N    run, exec, explain, judge: up to N steps, 0 to 16777216 (1000000)" ∷
+    codes "  --steps N    run, exec, tags, explain, judge: N steps, 0 to 16777216 (1000000)" ∷
     codes "  --events M   with --turns or --steps: at most M events, 0 to 4096 (1024)" ∷
     codes "  --in LIST    likewise: 1 to 65536 signed 32-bit inputs (none), as --in=-5,3" ∷
+    codes "  --data S,B,C tags: B bytes from address S on are compartment C's data (none)" ∷
     codes "  --show K     explain: only the text after K replacements, 0 to 32" ∷
     codes "  --section C  object, needed: the name of the section" ∷
     codes "  --size K     make, needed: how many functions, 1 to 1000" ∷

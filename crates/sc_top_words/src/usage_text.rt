@@ -17,12 +17,14 @@ pub fn usage() -> &'static [u8]
   explain   the same, and the sections to replace so that the source does it too
   judge     the same for a text after a policy, and what the policy says of it
   exec      what the machine does on an image
+  tags      what a machine that protects by tags on bytes does on an image
   make      a program made from two numbers, with no input
 options, each at most once; in parentheses what holds where one is not given
   --turns N    meaning: at most N turns, 0 to 16777216 (1000000)
-  --steps N    run, exec, explain, judge: up to N steps, 0 to 16777216 (1000000)
+  --steps N    run, exec, tags, explain, judge: N steps, 0 to 16777216 (1000000)
   --events M   with --turns or --steps: at most M events, 0 to 4096 (1024)
   --in LIST    likewise: 1 to 65536 signed 32-bit inputs (none), as --in=-5,3
+  --data S,B,C tags: B bytes from address S on are compartment C's data (none)
   --show K     explain: only the text after K replacements, 0 to 32
   --section C  object, needed: the name of the section
   --size K     make, needed: how many functions, 1 to 1000
