@@ -1,5 +1,7 @@
 ghost use Rattle.std.specs.Prelude.{◌≡◌, ◌+◌, ◌<◌, [], ◌∷◌, IfOk, IfSome, IfNone, OnSome};
-ghost use Rattle.sc_gate.specs.Waiting.{crossing_of};
+ghost use Rattle.sc_gate.specs.Waiting.{call_at, crossing_of};
+ghost use Rattle.std.specs.Option.{option_map};
+ghost use Rattle.std.specs.Prelude.{length};
 
 use crate::CrossEntry;
 use sc_base::OutOfMemory;
@@ -45,6 +47,20 @@ impl CrossStack {
         ensures { result ≡ self.now.room }
     {
         self.limit - self.entries.len() as u32
+    }
+
+    /// How many calls are kept.
+    pub fn count(&self) -> u32
+        ensures { result ≡ length self.now.calls }
+    {
+        self.entries.len() as u32
+    }
+
+    /// The call of a level: each has as its level how many calls were kept before it.
+    pub fn at(&self, level: u32) -> Option<CrossEntry>
+        ensures { option_map crossing_of result ≡ call_at self.now.calls level }
+    {
+        self.entries.get(level as usize).copied()
     }
 
     /// Keeps a call, for which there is room.

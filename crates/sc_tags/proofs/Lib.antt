@@ -3,3 +3,5 @@ mod Linear
 mod Lifting
 mod Owners
 mod Agree
+mod Bytes
+mod Untouched

@@ -4,4 +4,6 @@ pub mod Tags
 pub mod Tagged
 pub mod Levels
 pub mod TagStep
+pub mod TagHart
+pub mod Progress
 pub mod TagLaws

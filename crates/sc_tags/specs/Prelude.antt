@@ -5,5 +5,5 @@ unfoldable pub use Rattle.sc_tags.specs.Tags.{all_tagged}
 pub use Rattle.sc_tags.specs.Tagged.{Tagged, at_level, on_tag_call, on_tag_end, on_tag_return, returned_by, tag_start}
 pub use Rattle.sc_tags.specs.TagStep.{by_tag, carried_called, core_of, tag_jumps, tag_leaves, tag_machine, tag_run}
 pub use Rattle.sc_tags.specs.TagStep.{tag_step, tagged_word, with_outcome}
-pub use Rattle.sc_tags.specs.Levels.{capabilities_of, leveled, lifted}
+pub use Rattle.sc_tags.specs.Levels.{leveled, lifted, same_memory, with_levels}
 pub use Rattle.sc_tags.specs.TagLaws.{CapabilitiesAreLinear, TagsAgree}
