@@ -5,6 +5,7 @@ ghost use Rattle.std.specs.Prelude.{length};
 
 use crate::CrossEntry;
 use sc_base::OutOfMemory;
+use sqlite_items::at;
 use std::alloc::Global;
 use std::marker::Model;
 
@@ -53,14 +54,14 @@ impl CrossStack {
     pub fn count(&self) -> u32
         ensures { result ≡ length self.now.calls }
     {
-        self.entries.len() as u32
+        self.limit - self.room()
     }
 
     /// The call of a level: each has as its level how many calls were kept before it.
     pub fn at(&self, level: u32) -> Option<CrossEntry>
         ensures { option_map crossing_of result ≡ call_at self.now.calls level }
     {
-        self.entries.get(level as usize).copied()
+        at(&self.entries, level as usize).copied()
     }
 
     /// Keeps a call, for which there is room.
