@@ -4,10 +4,11 @@ use Rattle.sc_tags.proofs.Common.{Unowned, [], all_tagged, ap, ap₂, are_data, 
 use Rattle.sc_tags.proofs.Common.{comp_of_data, data_start, eq-eqb, false, if◌then◌else◌, is_some, is_tag, length, lt-leb}
 use Rattle.sc_tags.proofs.Common.{le-leb, le-ltb, lt-ltb, nat_le, nat_lt, nat_tests, one_is, owner_of, owns_is, refl, slice_get}
 use Rattle.sc_tags.proofs.Common.{suc, sym, tag_at, tag_by, true, word_at, zero, ℕ, ◌%◌, ◌&&◌, ◌*◌, ◌+◌, ◌-◌}
-use Rattle.sc_tags.proofs.Common.{◌/◌, ◌<◌, ◌∙◌, ◌∷◌, ◌≡◌, ◌≤◌, ◌||◌}
+use Rattle.sc_tags.proofs.Common.{cases_lt, eqb-true, slice_get_within, subst, true≢false, ⊎_elim, ◌/◌, ◌<◌, ◌∙◌, ◌∷◌, ◌≡◌, ◌≤◌, ◌||◌}
 use Rattle.sc_image.specs.Prelude.{has_heap, initial_globals, stack_size, stack_top, zone_size, zone_start}
 use Rattle.sc_image.specs.declared.parts.CompPart.{CompPart}
 use Rattle.sc_tags.specs.Prelude.{is_data_byte, is_in_range, retagged}
+use Rattle.sc_tags.specs.TagHart.{has_data_at}
 use Rattle.std.specs.Prelude.{fold}
 
 -- a place in a list
@@ -49,14 +50,42 @@ module _ (image : ImageParts) (at : ℕ) where
       no true = refl
       no false = refl
 
-  pub data_nobody : length image.comps ≤ comp_of_data at → is_data_byte image at ≡ false
-  data_nobody past = rw (le-ltb (comp_of_data at) (length image.comps) past) refl
+  pub data_nobody : slice_get image.comps (comp_of_data at) ≡ None → is_data_byte image at ≡ false
+  data_nobody none = rw (sym (there image.comps (comp_of_data at)) ∙ ap is_some none) refl
 
   pub data_there : (comp : CompPart) → slice_get image.comps (comp_of_data at) ≡ Some comp → 0x10000000 ≤ at →
       comp_of_data at < length image.comps →
-      is_data_byte image at ≡ (nat_lt ((at - 0x10000000) % 0x100000) (0x10000 + length comp.globals) ||
-      (comp.heap && (nat_le 0x80000 ((at - 0x10000000) % 0x100000) &&
-      nat_lt ((at - 0x10000000) % 0x100000) (0x80000 + zone_size))))
+      is_data_byte image at ≡ has_data_at comp ((at - 0x10000000) % 0x100000)
   data_there comp found from within =
       rw (lt-ltb (comp_of_data at) (length image.comps) within)
       (one_is image (comp_of_data at) at ∙ owns_is image (comp_of_data at) at ∙ rw found (grind (arith, nat_tests)))
+
+-- Tags, byte by byte.
+
+module _ (tags : ℕ → ByteTag) (wanted : ByteTag) (a : ℕ) where
+  pub not_all : (place size : ℕ) → place < size → is_tag wanted (tags (a + place)) ≡ false →
+      all_tagged tags wanted a size ≡ false
+  unfolding all_tagged
+  not_all place zero within other = absurd (omega (arith, within))
+  not_all place (suc size) within other = ⊎_elim
+      (λ below. rw (not_all place size below other) refl)
+      (λ from. let last : place ≡ size = omega (arith, from, within) in
+      ap (λ k. all_tagged tags wanted a size && is_tag wanted (tags (a + k))) (sym last) ∙
+      rw other (none_and (all_tagged tags wanted a size))) (cases_lt place size)
+    where
+      none_and : (b : Bool) → (b && false) ≡ false
+      none_and true = refl
+      none_and false = refl
+
+  pub all_more : (place : ℕ) → all_tagged tags wanted a place ≡ true → is_tag wanted (tags (a + place)) ≡ true →
+      all_tagged tags wanted a (place + 1) ≡ true
+  unfolding all_tagged
+  all_more place all here =
+      let more : place + 1 ≡ suc place = omega arith in
+      ap (all_tagged tags wanted a) more ∙ rw (all, here) refl
+
+-- a compartment that is there has a small number
+pub few_there : (image : ImageParts) (c : ℕ) (comp : CompPart) → IsWellFormed image → slice_get image.comps c ≡ Some comp →
+    c < 32
+few_there image c comp formed found = let within = slice_get_within image.comps c comp found in
+    let few = formed.few_comps in omega (arith, within, few)

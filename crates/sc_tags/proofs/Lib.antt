@@ -5,3 +5,7 @@ mod Owners
 mod Agree
 mod Bytes
 mod Untouched
+mod Stores
+mod CodeBytes
+mod Leaving
+mod TagRuns

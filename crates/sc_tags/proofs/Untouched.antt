@@ -3,8 +3,8 @@ use Rattle.sc_tags.proofs.Common.{All, Bool, ByteTag, Code, Data, ImageParts, Is
 use Rattle.sc_tags.proofs.Common.{TagRange, Unowned, [], all_tagged, and_parts, ap, ap₂, are_data, arith, code_word}
 use Rattle.sc_tags.proofs.Common.{code_byte, comp_of_code, comp_of_data, false, true≢false, ◌*◌, ◌/◌, is_some, is_tag, length, nat_eq, nat_lt, owner_of, refl, suc, sym}
 use Rattle.sc_tags.proofs.Common.{tag_at, tag_by, true, word_at, zero, ℕ, if◌then◌else◌, ◌%◌, ◌&&◌, ◌+◌, ◌<◌, ◌∙◌}
-use Rattle.sc_tags.proofs.Common.{◌∷◌, ◌≡◌, ltb-true, cases_lt, subst, ⊎_elim}
-use Rattle.sc_tags.proofs.Owners.{data_tagged, fetched_same}
+use Rattle.sc_tags.proofs.Common.{◌∷◌, ◌≡◌, data_bounds, ltb-true, cases_lt, subst, ⊎_elim}
+use Rattle.sc_tags.proofs.Owners.{code_below, data_tagged, fetched_same}
 use Rattle.sc_image.proofs.Common.{All-head, All-tail}
 use Rattle.sc_machine.proofs.Words.{data_there}
 use Rattle.sc_machine.specs.Place.{IsPlace}
@@ -12,7 +12,7 @@ use Rattle.sc_store.specs.Prelude.{HasBytes}
 use Rattle.sc_tags.specs.Prelude.{first_bytes, is_data_byte, is_in_range, retagged}
 use Rattle.sc_tags.specs.TagHart.{IsApart, TagSite, are_own_data, is_own_code}
 use Rattle.std.specs.Option.{option_or}
-use Rattle.std.specs.Prelude.{fold}
+use Rattle.std.specs.Prelude.{fold, ◌^◌}
 use Rattle.sc_image.specs.Prelude.{start_memory}
 
 -- Untouched bytes.
@@ -99,6 +99,38 @@ module _ (image : ImageParts) (formed : IsWellFormed image) where
       by None at true is h = data_first a is
       by None at false is h = absurd (true≢false (sym h))
 
+  -- and it lies far below the last address
+  code_low : (a word : ℕ) → code_word image a ≡ Some word → a + 4 < 2 ^ 32
+  code_low a word at = let low = code_below image formed (comp_of_code (a / 4 * 4)) (a / 4 * 4) word at in
+      omega (arith, low)
+
+  data_low : (a : ℕ) → is_data_byte image a ≡ true → a + 4 < 2 ^ 32
+  data_low a is =
+      let parts = and_parts (nat_lt (comp_of_data a) (length image.comps)) _ is in
+      let within = ltb-true (comp_of_data a) (length image.comps) parts.0 in
+      let bounds = data_bounds image (comp_of_data a) a 1 formed (omega arith) parts.1 in
+      let few = formed.few_comps in
+      omega (arith, bounds.1, within, few)
+
+  owner_low : (a : ℕ) → is_owned (owner_of image a) ≡ true → a + 4 < 2 ^ 32
+  owner_low a owned = by _ refl _ refl owned
+    where
+      by : (word : Option ℕ) → code_word image a ≡ word → (data_byte : Bool) → is_data_byte image a ≡ data_byte →
+          is_owned (if is_some word then Code (comp_of_code (a / 4 * 4)) else if data_byte then Data (comp_of_data a)
+          else Unowned) ≡ true → a + 4 < 2 ^ 32
+      by (Some word) at data_byte is h = code_low a word at
+      by None at true is h = data_low a is
+      by None at false is h = absurd (true≢false (sym h))
+
+  pub tagged_low : (ranges : List TagRange) (wanted : ByteTag) (a size : ℕ) → is_owned wanted ≡ true → 0 < size →
+      all_tagged (tag_at image ranges) wanted a size ≡ true → a + 4 < 2 ^ 32
+  unfolding all_tagged
+  tagged_low ranges wanted a zero owned some all = absurd (omega (arith, some))
+  tagged_low ranges wanted a (suc size) owned some all =
+      let parts = and_parts (all_tagged (tag_at image ranges) wanted a size) _ all in
+      let last : a + size + 4 < 2 ^ 32 = owner_low (a + size) (has_owner wanted (owner_of image (a + size)) _ owned parts.1) in
+      omega (arith, last)
+
   pub tagged_there : (ranges : List TagRange) (wanted : ByteTag) (a size : ℕ) → is_owned wanted ≡ true →
       all_tagged (tag_at image ranges) wanted a size ≡ true → HasBytes (first_bytes image) a size
   unfolding all_tagged
@@ -109,3 +141,22 @@ module _ (image : ImageParts) (formed : IsWellFormed image) where
       (λ last. let same : size ≡ k = omega (arith, last, few) in
       ap (λ j. is_some (first_bytes image (a + j))) (sym same) ∙
       owner_first (a + size) (has_owner wanted (owner_of image (a + size)) _ owned parts.1)) (cases_lt k size)
+
+  -- bytes that are tagged as a compartment's code or data
+  pub code_tagged : (ranges : List TagRange) (c a : ℕ) → all_tagged (tag_at image ranges) (Code c) a 4 ≡ true →
+      HasBytes (first_bytes image) a 4 × (a + 4 < 2 ^ 32)
+  code_tagged ranges c a all =
+      (tagged_there ranges (Code c) a 4 refl all, tagged_low ranges (Code c) a 4 refl (omega arith) all)
+
+  pub data_tagged_there : (ranges : List TagRange) (c a size : ℕ) →
+      all_tagged (tag_at image ranges) (Data c) a size ≡ true → HasBytes (first_bytes image) a size
+  data_tagged_there ranges c a size all = tagged_there ranges (Data c) a size refl all
+
+-- What a site's own bytes are.
+module _ (site : TagSite) (formed : IsWellFormed site.image) where
+  pub own_code : (a : ℕ) → is_own_code site a ≡ true → HasBytes (first_bytes site.image) a 4 × (a + 4 < 2 ^ 32)
+  own_code a is = let parts = and_parts (nat_eq (a % 4) 0) _ is in
+      code_tagged site.image formed site.ranges site.comp a parts.1
+
+  pub own_data : (a size : ℕ) → are_own_data site a size ≡ true → HasBytes (first_bytes site.image) a size
+  own_data a size is = data_tagged_there site.image formed site.ranges site.comp a size is

@@ -1,6 +1,7 @@
 pub mod Common
 pub mod Prelude
 pub mod Tags
+pub mod CodeBytes
 pub mod Tagged
 pub mod Levels
 pub mod TagStep

@@ -10,6 +10,9 @@ use Rattle.sc_machine.specs.Prelude.{HasRoom, IsSound, running, state_in}
 use Rattle.sc_registers.specs.declared.registers.Core.{Core}
 use Rattle.sc_machine.specs.declared.hart.Hart.{Hart}
 use Rattle.std.specs.Option.{option_or}
+use Rattle.sc_image.specs.Prelude.{stack_size, zone_size}
+use Rattle.sc_image.specs.declared.parts.CompPart.{CompPart}
+use Rattle.std.specs.Prelude.{length, nat_le, nat_lt, ◌||◌}
 use Rattle.std.specs.Prelude.{Bool, Err, List, Ok, Result, false, is_some, nat_eq, ℕ, ◌%◌, ◌+◌, ◌<◌, ◌&&◌, ◌*◌, ◌/◌, ◌≡◌}
 
 -- the state with levels that a hart stands for, with this memory: the calls of its cross stack are the capabilities
@@ -77,3 +80,8 @@ are_own_data site address size = all_tagged (tag_at site.image site.ranges) (Dat
 abbrev pub is_own_code : TagSite → (address : ℕ) → Bool
 is_own_code site address =
     nat_eq (address % 4) 0 && all_tagged (tag_at site.image site.ranges) (Code site.comp) address 4
+
+-- a compartment has data at an offset from where its data begin
+abbrev pub has_data_at : CompPart → (offset : ℕ) → Bool
+has_data_at comp offset = nat_lt offset (stack_size + length comp.globals) ||
+    (comp.heap && (nat_le 0x80000 offset && nat_lt offset (0x80000 + zone_size)))

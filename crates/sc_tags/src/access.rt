@@ -1,6 +1,7 @@
 //! Loads and stores.
 
-ghost use Rattle.sc_image.specs.Prelude.{load_by, refused_by, store_by};
+ghost use Rattle.sc_image.specs.Prelude.{load_by, store_by};
+ghost use Rattle.sc_image.specs.Step.{refused_by};
 ghost use Rattle.sc_machine.specs.Prelude.{HasBytes, load_size, store_size};
 ghost use Rattle.sc_tags.specs.Prelude.{Tagged, core_of, first_bytes};
 ghost use Rattle.sc_tags.specs.TagHart.{IsOwned, are_own_data, bytes_of, running_in, tag_outcome};
@@ -69,6 +70,7 @@ pub(crate) fn store<S: Store>(
 fn refused(tags: &Tags<'_>, size: u32, address: u32) -> Option<TrapReason>
     requires some { 0 < size }
     requires few { size ≤ 4 }
+    requires end { address % size ≡ 0 → address + size ≤ 2 ^ 32 }
     ensures reason { result ≡ refused_by (are_own_data tags.now address size) size address }
     ensures aligned { IfNone result (address % size ≡ 0) }
     ensures there { IfNone result (HasBytes (first_bytes tags.now.image) address size) }

@@ -1,4 +1,5 @@
 //! One step, by the instruction at the pc. A step that can't be made changes nothing.
+#![tactic(auto, unfolding(sc_image::specs::Step::execute_by))]
 
 ghost use Rattle.sc_image.specs.Prelude.{execute_by};
 ghost use Rattle.sc_machine.specs.Prelude.{IsReady, LeavesSound, word_of};

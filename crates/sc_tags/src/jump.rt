@@ -1,4 +1,5 @@
 //! Jumps and branches, and what lies beyond the own code.
+#![tactic(auto, unfolding(sc_image::specs::Step::execute_by))]
 
 ghost use Rattle.sc_image.specs.Prelude.{Traps, execute_by, jump_by};
 ghost use Rattle.sc_machine.specs.Prelude.{ByteMemory, Instr, IsReady, IsReg, LeavesSound};

@@ -3,11 +3,11 @@
 ghost use Rattle.sc_gate.specs.Waiting.{crossing_of};
 ghost use Rattle.sc_image.specs.Prelude.{RunOf, continued};
 ghost use Rattle.sc_machine.specs.Prelude.{word_of};
-ghost use Rattle.sc_tags.specs.Prelude.{Tagged, tag_at, tag_machine, tag_run};
+ghost use Rattle.sc_tags.specs.Prelude.{IsWithinAddresses, Tagged, tag_at, tag_machine, tag_run};
 ghost use Rattle.sc_tags.specs.Progress.{IsTagCalled, tag_loaded, tag_run_of, tagged_of};
 ghost use Rattle.sc_tags.specs.TagHart.{CanRunTagged, bytes_of, tagged_in};
 ghost use Rattle.std.specs.Option.{option_map};
-ghost use Rattle.std.specs.Prelude.{◌≡◌, ◌+◌, ◌++◌, ◌∷◌, [], IfErr, IfOk, List, map, sum, ℕ};
+ghost use Rattle.std.specs.Prelude.{◌≡◌, ◌+◌, ◌++◌, ◌∷◌, [], All, IfErr, IfOk, List, map, sum, ℕ};
 
 use crate::execute::step;
 use crate::memory::Memory;
@@ -45,31 +45,18 @@ pub struct TagMachine<S: Store> {
     stop: Stop,
 }
 
-impl Model for Loaded {
-    ghost use Rattle.sc_tags.specs.TagHart.{LoadedParts};
-    ghost use Rattle.sc_word.specs.Word.{word_of};
-    ghost use Rattle.std.specs.Prelude.{map};
-
-    ghost Value = { LoadedParts };
-
-    ghost view = { λ loaded. record {
-      image = loaded.program;
-      ranges = loaded.ranges;
-      inputs = map word_of loaded.inputs;
-      events = loaded.events;
-    } };
-}
-
 impl<S: Store> Model for TagMachine<S> {
     ghost use Rattle.sc_tags.specs.Progress.{TagProgress};
     ghost use Rattle.sc_tags.specs.TagHart.{CanRunTagged, bytes_of};
+    ghost use Rattle.sc_word.specs.Word.{word_of};
+    ghost use Rattle.std.specs.Prelude.{map};
 
     ghost Value = { TagProgress S };
 
     ghost view = { λ m. record {
       machine = record {
-        image = m.loaded.image;
-        inputs = m.loaded.inputs;
+        image = m.loaded.program;
+        inputs = map word_of m.loaded.inputs;
         events = m.loaded.events;
         registers = m.hart.core.registers;
         pc = m.hart.core.pc;
@@ -85,7 +72,7 @@ impl<S: Store> Model for TagMachine<S> {
       ranges = m.loaded.ranges;
     } };
 
-    ghost invariant = { λ m. CanRunTagged m.loaded.image m.loaded.events m.hart (bytes_of S.bytes m.memory) };
+    ghost invariant = { λ m. CanRunTagged m.loaded.program m.loaded.events m.hart (bytes_of S.bytes m.memory) };
 }
 
 /// A machine that can't be made.
@@ -112,6 +99,7 @@ impl<S: Store> TagMachine<S> {
         inputs: &[i32],
         events: u32,
     ) -> Result<TagMachine<S>, TagLoadFault>
+        requires ranges { All IsWithinAddresses ranges.now }
         ensures image { IfOk result (λ machine. machine.machine.image ≡ image) }
         ensures ranges { IfOk result (λ machine. machine.ranges ≡ ranges.now) }
         ensures inputs { IfOk result (λ machine. machine.machine.inputs ≡ map word_of inputs.now) }
@@ -205,11 +193,11 @@ impl<S: Store> TagMachine<S> {
 
 /// Takes at most `steps` steps.
 fn run<S: Store>(loaded: &Loaded, hart: &mut Hart, memory: &mut Memory<S>, steps: u32) -> Stop
-    requires ready { CanRunTagged loaded.now.image loaded.now.events hart.old (bytes_of S.bytes memory.old) }
+    requires ready { CanRunTagged loaded.now.program loaded.now.events hart.old (bytes_of S.bytes memory.old) }
     ensures run { ◌≡◌ {A = RunOf Tagged} (record { state = tagged_in (bytes_of S.bytes memory.new) hart.new; stop = result })
-        (tag_run loaded.now.image loaded.now.ranges loaded.now.inputs loaded.now.events steps
+        (tag_run loaded.now.program loaded.now.ranges (map word_of loaded.now.inputs) loaded.now.events steps
         (tagged_in (bytes_of S.bytes memory.old) hart.old)) }
-    ensures ready { CanRunTagged loaded.now.image loaded.now.events hart.new (bytes_of S.bytes memory.new) }
+    ensures ready { CanRunTagged loaded.now.program loaded.now.events hart.new (bytes_of S.bytes memory.new) }
 {
     let mut tags = Tags::of(&loaded.program, loaded.ranges.as_slice(), hart.active);
     memory.focus(hart.active);

@@ -1,9 +1,11 @@
 //! All owned bytes, those of code too.
 
-ghost use Rattle.sc_machine.specs.Prelude.{HasBytes, extended, load_of, load_size, store_size, with_bytes};
-ghost use Rattle.sc_tags.specs.Prelude.{first_bytes};
+ghost use Rattle.sc_base.specs.Prelude.{most_compartments};
+ghost use Rattle.sc_machine.specs.Prelude.{HasBytes, extended, load_of, load_size, store_size, with_bytes, zeros};
+ghost use Rattle.sc_tags.specs.CodeBytes.{HasShortCode, code_regions, with_words};
+ghost use Rattle.sc_tags.specs.Prelude.{code_byte, first_bytes};
 ghost use Rattle.sc_tags.specs.TagHart.{bytes_of};
-ghost use Rattle.std.specs.Prelude.{◌≡◌, ◌%◌, IfOk};
+ghost use Rattle.std.specs.Prelude.{All, IfOk, length, ◌≡◌, ◌%◌, ◌*◌, ◌+◌, ◌^◌, ◌≤◌};
 
 use rv_code::{LoadOp, StoreOp};
 use sc_base::OutOfMemory;
@@ -78,18 +80,21 @@ impl<S: Store> Memory<S> {
 }
 
 /// The bytes of all code.
-fn start_code<S: Store>(alloc: Global, image: &Image) -> Result<S, OutOfMemory> {
-    let comps = image.parts().comps.as_slice();
-    let regions = code_regions(alloc, comps)?;
+fn start_code<S: Store>(alloc: Global, image: &Image) -> Result<S, OutOfMemory>
+    ensures { IfOk result (λ code. S.bytes code ≡ code_byte image.now) }
+{
+    let regions = code_regions(alloc, image.parts().comps.as_slice())?;
     let mut code = S::zeroed(alloc, &regions)?;
-    for (number, comp) in comps.iter().enumerate() {
-        put_words(&mut code, code_start(comp_id(number)), comp.code.as_slice());
-    }
+    put_code(&mut code, image);
     Ok(code)
 }
 
 /// The regions of each compartment's code.
-fn code_regions(alloc: Global, comps: &[CompPart]) -> Result<Vec<Region>, AllocError> {
+fn code_regions(alloc: Global, comps: &[CompPart]) -> Result<Vec<Region>, AllocError>
+    requires count { length comps.now ≤ most_compartments }
+    requires short { All HasShortCode comps.now }
+    ensures { IfOk result (λ regions. regions.items ≡ code_regions 0 comps.now) }
+{
     let mut regions = Vec::new(alloc);
     for (number, comp) in comps.iter().enumerate() {
         regions.push(Region {
@@ -100,8 +105,23 @@ fn code_regions(alloc: Global, comps: &[CompPart]) -> Result<Vec<Region>, AllocE
     Ok(regions)
 }
 
+/// Puts the words of each compartment's code.
+fn put_code<S: Store>(code: &mut S, image: &Image)
+    requires { S.bytes code.old ≡ zeros (code_regions 0 image.now.comps) }
+    ensures { S.bytes code.new ≡ code_byte image.now }
+{
+    let comps = image.parts().comps.as_slice();
+    for (number, comp) in comps.iter().enumerate() {
+        put_words(code, code_start(comp_id(number)), comp.code.as_slice());
+    }
+}
+
 /// Puts these words at the addresses from `start` on.
-fn put_words<S: Store>(code: &mut S, start: u32, words: &[u32]) {
+fn put_words<S: Store>(code: &mut S, start: u32, words: &[u32])
+    requires below { start + 4 * length words.now ≤ 2 ^ 32 }
+    requires there { HasBytes (S.bytes code.old) start (4 * length words.now) }
+    ensures { S.bytes code.new ≡ with_words (S.bytes code.old) start words.now (length words.now) }
+{
     code.focus(start);
     for (k, word) in words.iter().enumerate() {
         code.store32(start + 4 * k as u32, *word);

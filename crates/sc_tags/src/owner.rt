@@ -1,12 +1,14 @@
 //! The tag of each byte.
 
-ghost use Rattle.sc_image.specs.Prelude.{comp_of_code, word_at};
+ghost use Rattle.sc_base.specs.Prelude.{most_compartments};
+ghost use Rattle.sc_image.specs.Prelude.{comp_of_code, comp_of_data, most_globals, word_at};
 ghost use Rattle.sc_tags.specs.Prelude.{all_tagged, is_data_byte, is_in_range, is_tag, owner_of, retagged, tag_at};
-ghost use Rattle.sc_tags.specs.TagHart.{IsApart};
-ghost use Rattle.std.specs.Prelude.{All, IsTrue, fold, is_some, ◌≡◌, ◌%◌, ◌+◌, ◌^◌, ◌≤◌};
+ghost use Rattle.sc_tags.specs.TagHart.{IsApart, has_data_at};
+ghost use Rattle.std.specs.Prelude.{All, IsTrue, fold, is_some, length, ◌≡◌, ◌%◌, ◌+◌, ◌<◌, ◌^◌, ◌≤◌};
 
 use crate::tag::{ByteTag, TagRange};
-use sc_image::Image;
+use sc_event::CompId;
+use sc_image::{CompPart, Image};
 use sc_image::layout::{CODE, DATA, STACK_SIZE, STRETCH, ZONE, ZONE_SIZE, comp_id, comp_of_code};
 
 /// The tag of the byte at an address.
@@ -72,7 +74,8 @@ fn owner_of(image: &Image, at: u32) -> ByteTag
 /// Whether there is a word of somebody's code at an address.
 fn is_code_word(image: &Image, word: u32) -> bool
     requires { word % 4 ≡ 0 }
-    ensures { result ≡ is_some (word_at image.now (comp_of_code word) word) }
+    ensures is { result ≡ is_some (word_at image.now (comp_of_code word) word) }
+    ensures within { IsTrue result → comp_of_code word < most_compartments }
 {
     if word < CODE {
         return false;
@@ -84,33 +87,65 @@ fn is_code_word(image: &Image, word: u32) -> bool
 }
 
 /// The number of the compartment in whose stretch of data an address lies. There may be none of that number.
-fn comp_of_data(at: u32) -> usize {
+fn comp_of_data(at: u32) -> usize
+    ensures { result ≡ comp_of_data at }
+{
     (at.saturating_sub(DATA) / STRETCH) as usize
 }
 
 /// Whether the byte at an address is one of somebody's data.
 fn is_data_byte(image: &Image, at: u32) -> bool
-    ensures { result ≡ is_data_byte image.now at }
+    ensures is { result ≡ is_data_byte image.now at }
+    ensures within { IsTrue result → comp_of_data at < most_compartments }
 {
     if at < DATA {
         return false;
     }
-    let Some(part) = image.parts().comps.get(comp_of_data(at)) else {
+    match image.parts().comps.get(comp_of_data(at)) {
+        Some(part) => has_data(part, (at - DATA) % STRETCH),
+        None => false,
+    }
+}
+
+/// Whether a compartment has data at an offset from where its data begin.
+fn has_data(part: &CompPart, offset: u32) -> bool
+    requires { length part.now.globals ≤ most_globals }
+    ensures { result ≡ has_data_at part.now offset }
+{
+    if offset < STACK_SIZE + part.globals.as_bytes().len() as u32 {
+        return true;
+    }
+    if !part.heap {
         return false;
-    };
-    let offset = (at - DATA) % STRETCH;
-    offset < STACK_SIZE + part.globals.as_bytes().len() as u32
-        || part.heap && ZONE <= offset && offset < ZONE + ZONE_SIZE
+    }
+    ZONE <= offset && offset < ZONE + ZONE_SIZE
 }
 
 /// Whether a tag is the one that is wanted.
 fn is_tag(wanted: &ByteTag, tag: ByteTag) -> bool
     ensures { result ≡ is_tag wanted.now tag }
 {
-    match (*wanted, tag) {
-        (ByteTag::Code(c), ByteTag::Code(comp)) => comp == c,
-        (ByteTag::Data(c), ByteTag::Data(comp)) => comp == c,
-        (ByteTag::Unowned, ByteTag::Unowned) => true,
+    match *wanted {
+        ByteTag::Code(comp) => is_code(comp, tag),
+        ByteTag::Data(comp) => is_data(comp, tag),
+        ByteTag::Unowned => matches!(tag, ByteTag::Unowned),
+    }
+}
+
+fn is_code(wanted: CompId, tag: ByteTag) -> bool
+    ensures { result ≡ is_tag (ByteTag.Code wanted) tag }
+{
+    match tag {
+        ByteTag::Code(comp) => comp == wanted,
+        _ => false,
+    }
+}
+
+fn is_data(wanted: CompId, tag: ByteTag) -> bool
+    ensures { result ≡ is_tag (ByteTag.Data wanted) tag }
+{
+    match tag {
+        ByteTag::Data(comp) => comp == wanted,
         _ => false,
     }
 }

@@ -1,8 +1,10 @@
 //! The compartment whose code runs, and the tags that it meets.
 
 ghost use Rattle.sc_machine.specs.Place.{IsPlace};
-ghost use Rattle.sc_tags.specs.TagHart.{are_own_data, bytes_of, is_own_code};
-ghost use Rattle.std.specs.Prelude.{◌≡◌, ◌+◌, ◌<◌, ◌^◌, ◌≤◌};
+ghost use Rattle.sc_tags.specs.TagHart.{are_own_data, bytes_of, is_own_code, place_of};
+ghost use Rattle.sc_machine.specs.Prelude.{HasBytes};
+ghost use Rattle.sc_tags.specs.Prelude.{first_bytes};
+ghost use Rattle.std.specs.Prelude.{IsTrue, ◌≡◌, ◌%◌, ◌+◌, ◌<◌, ◌^◌, ◌≤◌};
 
 use crate::memory::Memory;
 use crate::owner::{all_tagged, are_untouched};
@@ -51,8 +53,7 @@ impl<'a> Tags<'a> {
 
     /// The compartment.
     pub fn here(&self) -> &Here<'a>
-        ensures image { result.now.image ≡ self.now.image }
-        ensures comp { result.now.comp ≡ self.now.comp }
+        ensures { result.now ≡ place_of self.now }
     {
         &self.here
     }
@@ -73,7 +74,10 @@ impl<'a> Tags<'a> {
 
     /// Whether a whole word stands at an address whose bytes are all tagged as the compartment's code.
     pub fn are_code(&self, address: u32) -> bool
-        ensures { result ≡ is_own_code self.now address }
+        ensures is { result ≡ is_own_code self.now address }
+        ensures aligned { IsTrue result → address % 4 ≡ 0 }
+        ensures there { IsTrue result → HasBytes (first_bytes self.now.image) address 4 }
+        ensures within { IsTrue result → address + 4 < 2 ^ 32 }
     {
         if address % 4 != 0 {
             return false;
@@ -90,7 +94,8 @@ impl<'a> Tags<'a> {
         requires some { 0 < size }
         requires few { size ≤ 4 }
         requires end { address + size ≤ 2 ^ 32 }
-        ensures { result ≡ are_own_data self.now address size }
+        ensures are { result ≡ are_own_data self.now address size }
+        ensures there { IsTrue result → HasBytes (first_bytes self.now.image) address size }
     {
         if are_untouched(self.ranges, address, size) {
             return self.here.are_data(address, size);
