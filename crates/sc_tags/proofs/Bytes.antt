@@ -1,15 +1,13 @@
 -- The owner of a byte, as the code finds it, and bytes that no range has.
-use Rattle.sc_tags.proofs.Common.{Bool, ByteTag, Code, Data, ImageParts, IsWellFormed, List, None, Option, Some, TagRange}
-use Rattle.sc_tags.proofs.Common.{Unowned, [], all_tagged, ap, ap₂, are_data, arith, code_start, comp_of_code}
-use Rattle.sc_tags.proofs.Common.{comp_of_data, data_start, eq-eqb, false, if◌then◌else◌, is_some, is_tag, length, lt-leb}
-use Rattle.sc_tags.proofs.Common.{le-leb, le-ltb, lt-ltb, nat_le, nat_lt, nat_tests, one_is, owner_of, owns_is, refl, slice_get}
-use Rattle.sc_tags.proofs.Common.{suc, sym, tag_at, tag_by, true, word_at, zero, ℕ, ◌%◌, ◌&&◌, ◌*◌, ◌+◌, ◌-◌}
-use Rattle.sc_tags.proofs.Common.{cases_lt, eqb-true, slice_get_within, subst, true≢false, ⊎_elim, ◌/◌, ◌<◌, ◌∙◌, ◌∷◌, ◌≡◌, ◌≤◌, ◌||◌}
-use Rattle.sc_image.specs.Prelude.{has_heap, initial_globals, stack_size, stack_top, zone_size, zone_start}
+use Rattle.sc_tags.proofs.Common.{Bool, ByteTag, ImageParts, IsWellFormed, List, None, Option, Some}
+use Rattle.sc_tags.proofs.Common.{[], all_tagged, ap, arith, code_start, comp_of_code}
+use Rattle.sc_tags.proofs.Common.{comp_of_data, eq-eqb, false, if◌then◌else◌, is_some, is_tag, length, lt-leb}
+use Rattle.sc_tags.proofs.Common.{le-leb, le-ltb, lt-ltb, nat_lt, nat_tests, one_is, owns_is, refl, slice_get}
+use Rattle.sc_tags.proofs.Common.{suc, sym, true, word_at, zero, ℕ, ◌%◌, ◌&&◌, ◌+◌, ◌-◌}
+use Rattle.sc_tags.proofs.Common.{cases_lt, slice_get_within, ⊎_elim, ◌/◌, ◌<◌, ◌∙◌, ◌∷◌, ◌≡◌, ◌≤◌}
 use Rattle.sc_image.specs.declared.parts.CompPart.{CompPart}
-use Rattle.sc_tags.specs.Prelude.{is_data_byte, is_in_range, retagged}
+use Rattle.sc_tags.specs.Prelude.{is_data_byte}
 use Rattle.sc_tags.specs.TagHart.{has_data_at}
-use Rattle.std.specs.Prelude.{fold}
 
 -- a place in a list
 there : {A : Type 0} (xs : List A) (i : ℕ) → is_some (slice_get xs i) ≡ nat_lt i (length xs)

@@ -3,11 +3,11 @@ use Rattle.sc_tags.proofs.Bytes.{code_low, code_nobody, code_there}
 use Rattle.sc_tags.proofs.Common.{All, Bool, ByteMemory, ImageParts, IsWellFormed, List, None, Option, Some, [], ap, arith}
 use Rattle.sc_tags.proofs.Common.{cases_lt, code_byte, code_start, code_word, comp_of_code, eq-eqb, eqb-true, false}
 use Rattle.sc_tags.proofs.Common.{if◌then◌else◌}
-use Rattle.sc_tags.proofs.Common.{is_some, le-leb, le-ltb, length, lt-leb, lt-ltb, nat_eq, nat_le, nat_lt, nat_tests}
-use Rattle.sc_tags.proofs.Common.{refl, slice_get, slice_get_within, subst, suc, sym, true, true≢false, with_bytes, word_at}
+use Rattle.sc_tags.proofs.Common.{is_some, le-leb, le-ltb, length, lt-ltb, nat_eq, nat_le, nat_lt, nat_tests}
+use Rattle.sc_tags.proofs.Common.{refl, slice_get, subst, suc, sym, true, true≢false, with_bytes, word_at}
 use Rattle.sc_tags.proofs.Common.{zero, ℕ, ⊎_elim, ◌%◌, ◌&&◌, ◌*◌, ◌+◌, ◌-◌, ◌/◌, ◌<◌, ◌∙◌, ◌∷◌, ◌≡◌, ◌≤◌}
 use Rattle.sc_image.specs.declared.parts.CompPart.{CompPart}
-use Rattle.sc_image.specs.Prelude.{code_in, stretch}
+use Rattle.sc_image.specs.Prelude.{stretch}
 use Rattle.sc_machine.proofs.Start.{Ordered, apart_by}
 use Rattle.sc_store.proofs.Words.{by_access, in_cases, in_false, in_true, stored-apart, stored-in}
 use Rattle.sc_store.specs.Prelude.{AreApart, AreBelow, HasBytes, IsIn, byte_of, is_in, zeros}
@@ -15,9 +15,9 @@ use Rattle.sc_store.specs.declared.region.Region.{Region}
 use Rattle.sc_tags.specs.CodeBytes.{HasShortCode, code_region, code_regions, with_words}
 use Rattle.std.proofs.lemmas.List.Elements.{All-cons, All-head, All-nil, All-tail}
 use Rattle.std.proofs.lemmas.Option.{slice_get-get_or, slice_get_past}
-use Rattle.std.proofs.Common.{append_assoc, get_or, take}
+use Rattle.std.proofs.Common.{get_or, take}
 use Rattle.std.specs.Option.{option_map}
-use Rattle.std.specs.Prelude.{IsSome, slice_index, ◌++◌, ◌^◌}
+use Rattle.std.specs.Prelude.{slice_index, ◌++◌, ◌^◌}
 
 -- Words, one after the other.
 

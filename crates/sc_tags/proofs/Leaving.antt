@@ -1,11 +1,11 @@
 -- What instructions answer, as outcomes with levels, and what lies beyond the own code.
 use Rattle.sc_tags.proofs.Bytes.{code_low, data_low}
-use Rattle.sc_tags.proofs.Common.{Bool, ByteMemory, ByteTag, Code, Goes, ImageParts, Jalr, List, MachineState, None, Option}
-use Rattle.sc_tags.proofs.Common.{Outcome, OutcomeOf, RunOf, Some, TagRange, Tagged, TrapReason, Traps, all_tagged, ap, arith}
+use Rattle.sc_tags.proofs.Common.{Bool, ByteMemory, Code, Goes, ImageParts, Jalr, List, MachineState, None, Option}
+use Rattle.sc_tags.proofs.Common.{Outcome, OutcomeOf, Some, TagRange, Tagged, TrapReason, Traps, all_tagged, ap, arith}
 use Rattle.sc_tags.proofs.Common.{by_tag, carried_called, comp_of_code, core_of, decoded, entered_export, environment_call}
-use Rattle.sc_tags.proofs.Common.{eq-eqb, execute_by, false, gate, if◌then◌else◌, is_some, is_tag, jump_by, jump_outside}
-use Rattle.sc_tags.proofs.Common.{length, lifted, load_of, nat_eq, on_return, on_tag_return, ra, refl, reg, step_by, sym, tag_at}
-use Rattle.sc_tags.proofs.Common.{tag_jumps, tag_leaves, tag_step, tagged_word, true, with_outcome, ℕ, ◌%◌, ◌*◌, ◌/◌, ◌∙◌, ◌≡◌}
+use Rattle.sc_tags.proofs.Common.{eq-eqb, execute_by, false, gate, if◌then◌else◌, is_tag, jump_by, jump_outside}
+use Rattle.sc_tags.proofs.Common.{length, lifted, load_of, on_return, on_tag_return, refl, reg, step_by, sym, tag_at}
+use Rattle.sc_tags.proofs.Common.{tag_jumps, tag_step, tagged_word, true, with_outcome, ℕ, ◌%◌, ◌*◌, ◌/◌, ◌∙◌, ◌≡◌}
 use Rattle.rv_code.specs.declared.instr.Instr.{Instr}
 use Rattle.sc_base.specs.declared.stop.TrapReason.TheVariants.{BadJump, Illegal}
 use Rattle.sc_machine.specs.Prelude.{outcome_of}

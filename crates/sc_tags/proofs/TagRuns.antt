@@ -1,6 +1,6 @@
 -- Runs of the machine with tags, step by step and call by call.
 use Rattle.sc_tags.proofs.Common.{Goes, ImageParts, List, None, RunOf, Some, Stop, TagRange, Tagged, TrapReason, Traps, [], ap}
-use Rattle.sc_tags.proofs.Common.{by_tag, refl, stopped, suc, sym, tag_machine, tag_run, tag_start, tag_step, ℕ, ◌∙◌, ◌∷◌}
+use Rattle.sc_tags.proofs.Common.{by_tag, stopped, suc, sym, tag_machine, tag_run, tag_start, tag_step, ℕ, ◌∙◌, ◌∷◌}
 use Rattle.sc_tags.proofs.Common.{◌≡◌}
 use Rattle.sc_base.specs.declared.stop.Stop.TheVariants.{StepsOut, Trap}
 use Rattle.sc_image.proofs.Running.{going_run, more_run, out_run, stopped_run, trapped_run}

@@ -3,7 +3,7 @@ use Rattle.sc_tags.proofs.Common.{All, Bool, ByteTag, Code, Data, ImageParts, Is
 use Rattle.sc_tags.proofs.Common.{TagRange, Unowned, [], all_tagged, and_parts, ap, ap₂, are_data, arith, code_word}
 use Rattle.sc_tags.proofs.Common.{code_byte, comp_of_code, comp_of_data, false, true≢false, ◌*◌, ◌/◌, is_some, is_tag, length, nat_eq, nat_lt, owner_of, refl, suc, sym}
 use Rattle.sc_tags.proofs.Common.{tag_at, tag_by, true, word_at, zero, ℕ, if◌then◌else◌, ◌%◌, ◌&&◌, ◌+◌, ◌<◌, ◌∙◌}
-use Rattle.sc_tags.proofs.Common.{◌∷◌, ◌≡◌, data_bounds, ltb-true, cases_lt, subst, ⊎_elim}
+use Rattle.sc_tags.proofs.Common.{◌∷◌, ◌≡◌, data_bounds, ltb-true, cases_lt, ⊎_elim}
 use Rattle.sc_tags.proofs.Owners.{code_below, data_tagged, fetched_same}
 use Rattle.sc_image.proofs.Common.{All-head, All-tail}
 use Rattle.sc_machine.proofs.Words.{data_there}

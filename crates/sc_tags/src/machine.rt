@@ -138,6 +138,7 @@ impl<S: Store> TagMachine<S> {
 
     /// Goes on for at most `steps` steps, and says why it stopped. A run that stopped for another reason than
     /// `StepsOut` stays so: the answer is the same, and nothing changes.
+    #[tactic(auto, using(crate::proofs::TagRuns::called_again, crate::proofs::TagRuns::sum_of_calls))]
     pub fn run(&mut self, steps: u32) -> Stop
         ensures run { let old = self.old.machine in tag_run_of S.bytes self.new ≡
             continued (tag_run old.image self.old.ranges old.inputs old.events steps) (tag_run_of S.bytes self.old) }

@@ -8,8 +8,8 @@ ghost use Rattle.std.specs.Prelude.{All, IsTrue, fold, is_some, length, ◌≡�
 
 use crate::tag::{ByteTag, TagRange};
 use sc_event::CompId;
-use sc_image::{CompPart, Image};
 use sc_image::layout::{CODE, DATA, STACK_SIZE, STRETCH, ZONE, ZONE_SIZE, comp_id, comp_of_code};
+use sc_image::{CompPart, Image};
 
 /// The tag of the byte at an address.
 pub(crate) fn tag_at(image: &Image, ranges: &[TagRange], at: u32) -> ByteTag

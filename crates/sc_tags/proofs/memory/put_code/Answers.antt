@@ -1,6 +1,5 @@
 use Rattle.sc_tags.proofs.CodeBytes.{code_so_far, comp_there, so_far_all, so_far_has, so_far_more, so_far_zeros}
-use Rattle.sc_tags.proofs.Common.{ap, arith, code_start, length, ◌*◌, ◌+◌, ◌∙◌, ◌≡◌}
-use Rattle.sc_tags.specs.CodeBytes.{with_words}
+use Rattle.sc_tags.proofs.Common.{ap, arith, length, ◌∙◌, ◌≡◌}
 use Rattle.sc_tags.proofs.memory.put_code.Goals as goal
 
 pub loop-number-init : goal.loop-number-init
@@ -34,7 +33,11 @@ loop-number-preserved g c =
 pub returns : goal.returns
 returns g c =
     let all : c.loop-number.number ≡ length c.args.image.now.comps =
-    omega (arith, c.loop-number-test.false, c.loop-number.auto.number-end,
-    ap length (c.as_slice-comps.ensures ∙ ap (λ p. p.comps) c.parts.ensures.parts)) in
+    omega (
+      arith,
+      c.loop-number-test.false,
+      c.loop-number.auto.number-end,
+      ap length (c.as_slice-comps.ensures ∙ ap (λ p. p.comps) c.parts.ensures.parts),
+    ) in
     c.loop-number.invariant ∙ ap (code_so_far c.args.image.now) all ∙
     so_far_all c.args.image.now c.parts.ensures.well_formed

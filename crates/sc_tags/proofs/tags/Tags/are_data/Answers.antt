@@ -1,7 +1,7 @@
-use Rattle.sc_tags.proofs.Common.{IsWellFormed, ap, subst, sym, ◌∙◌}
+use Rattle.sc_tags.proofs.Common.{IsWellFormed, subst, sym, ◌∙◌}
 use Rattle.sc_machine.specs.Place.{IsPlace}
 use Rattle.sc_store.specs.Prelude.{HasBytes}
-use Rattle.sc_tags.proofs.Untouched.{data_tagged_there, data_untouched, own_data}
+use Rattle.sc_tags.proofs.Untouched.{data_tagged_there, data_untouched}
 use Rattle.sc_tags.specs.Prelude.{first_bytes}
 use Rattle.sc_tags.specs.TagHart.{TagSite}
 use Rattle.sc_tags.proofs.tags.Tags.are_data.Goals as goal
