@@ -4,3 +4,9 @@ mod KnownEvents
 mod Lifting
 mod Owners
 mod Agree
+mod Bytes
+mod Untouched
+mod Stores
+mod CodeBytes
+mod Leaving
+mod TagRuns
