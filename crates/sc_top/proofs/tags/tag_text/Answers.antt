@@ -2,6 +2,7 @@ use Rattle.sc_top.proofs.Common.{All, IsKnown, ap, map, rules, subst, sym, word_
 use Rattle.sc_top.proofs.Known.{called_once, tag_printed}
 use Rattle.sc_top.specs.Tagged.{ranges_of, tag_run}
 use Rattle.sc_image.specs.Prelude.{RunOf}
+use Rattle.sc_store.specs.Store.{bytes_in}
 use Rattle.sc_tags.specs.Prelude.{Tagged}
 use Rattle.sc_top.proofs.tags.tag_text.Goals as goal
 
@@ -40,7 +41,7 @@ returns c =
     search (
       rules,
       c.as_slice.ensures,
-      c.as_slice-2.ensures,
+      c.as_slice-inputs.ensures,
       c.load.ensures,
       c.map_err.ensures,
       c.in_ok-machine.ensures,
@@ -48,7 +49,7 @@ returns c =
     ) in
     let events : old.machine.events ≡ c.args.options.now.events =
     search (rules, c.load.ensures, c.map_err.ensures, c.in_ok-machine.ensures, c.in_ok-machine.was) in
-    let ran = called_once _ old c.run-stop.new.self c.args.image (ranges_of c.args.range)
+    let ran = called_once bytes_in old c.run-stop.new.self c.args.image (ranges_of c.args.range)
     (map word_of c.args.options.now.inputs) c.args.options.now.steps c.args.options.now.events c.run-stop.ensures.run
     image ranges inputs events
     (search (rules, c.load.ensures, c.map_err.ensures, c.in_ok-machine.ensures, c.in_ok-machine.was)) in
