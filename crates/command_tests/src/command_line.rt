@@ -51,6 +51,12 @@ const NO_SECTIONS: &str = "\
     object --section a-b|object --section A --section B|object --section A B|object A|link --section A|link x|\
     compile --section A";
 
+const NO_RANGES: &str = "\
+    tags --data|tags --data=|tags --data |tags --data 1|tags --data 1,2|tags --data 1,2,3,4|tags --data 1,2,3,|\
+    tags --data ,1,2|tags --data 1,,2|tags --data 4294967296,0,0|tags --data 0,4294967296,0|\
+    tags --data 4294967295,2,0|tags --data 0,0,32|tags --data=-1,0,0|tags --data 0,+1,0|tags --data 0,0,a|\
+    tags --data 0,0,0 --data 0,0,0|tags --turns 1|tags --show 1|exec --data 0,0,0|run --data 0,0,0";
+
 // A command, and what it is read as.
 const COMMANDS: &str = "\
 check -> Ok(Check)
@@ -59,6 +65,11 @@ meaning -> Ok(Meaning(MeaningOptions { turns: 1000000, events: 1024, inputs: Ite
 run -> Ok(Run(RunOptions { steps: 1000000, events: 1024, inputs: Items { items: [] } }))
 exec -> Ok(Exec(RunOptions { steps: 1000000, events: 1024, inputs: Items { items: [] } }))
 explain -> Ok(Explain(RunOptions { steps: 1000000, events: 1024, inputs: Items { items: [] } }, None))
+tags -> Ok(Tags(RunOptions { steps: 1000000, events: 1024, inputs: Items { items: [] } }, None))
+tags --data 16777224,4,0 -> Ok(Tags(RunOptions { steps: 1000000, events: 1024, inputs: Items { items: [] } }, \
+Some(DataRange { start: 16777224, bytes: 4, comp: CompId(0) })))
+tags --data=4294967295,1,031 --steps 5 -> Ok(Tags(RunOptions { steps: 5, events: 1024, inputs: Items { items: [] } }, \
+Some(DataRange { start: 4294967295, bytes: 1, comp: CompId(31) })))
 judge -> Ok(Judge(RunOptions { steps: 1000000, events: 1024, inputs: Items { items: [] } }))
 run --steps 0 -> Ok(Run(RunOptions { steps: 0, events: 1024, inputs: Items { items: [] } }))
 run --steps=16777216 -> Ok(Run(RunOptions { steps: 16777216, events: 1024, inputs: Items { items: [] } }))
@@ -94,6 +105,7 @@ fn refusals(rt: HostRuntime) -> Result<(), Fail> {
         NO_LISTS,
         NO_PROGRAMS,
         NO_SECTIONS,
+        NO_RANGES,
     ] {
         for line in lines.split('|') {
             assert!(rt; read(rt.alloc(), line)?.as_str() == "Err(Usage)", "{line}");
@@ -151,6 +163,6 @@ fn usage_fits_a_page(rt: HostRuntime) {
         }
         assert!(rt; width <= 80);
     }
-    assert!(rt; lines <= 30 && width == 0);
+    assert!(rt; lines <= 24 && width == 0);
     assert!(rt; usage().starts_with(b"secomp: usage\n"));
 }

@@ -11,4 +11,5 @@ mod meaning;
 mod objects;
 mod refusal;
 mod runs;
+mod tags;
 mod words;

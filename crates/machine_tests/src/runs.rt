@@ -4,3 +4,4 @@ mod gates;
 mod heaps;
 mod images;
 mod machines;
+mod tags;

@@ -1,8 +1,11 @@
 ghost use Rattle.std.specs.Prelude.{◌≡◌, ◌+◌, ◌<◌, [], ◌∷◌, IfOk, IfSome, IfNone, OnSome};
-ghost use Rattle.sc_gate.specs.Waiting.{crossing_of};
+ghost use Rattle.sc_gate.specs.Waiting.{call_at, crossing_of};
+ghost use Rattle.std.specs.Option.{option_map};
+ghost use Rattle.std.specs.Prelude.{length};
 
 use crate::CrossEntry;
 use sc_base::OutOfMemory;
+use sqlite_items::at;
 use std::alloc::Global;
 use std::marker::Model;
 
@@ -45,6 +48,20 @@ impl CrossStack {
         ensures { result ≡ self.now.room }
     {
         self.limit - self.entries.len() as u32
+    }
+
+    /// How many calls are kept.
+    pub fn count(&self) -> u32
+        ensures { result ≡ length self.now.calls }
+    {
+        self.limit - self.room()
+    }
+
+    /// The call of a level: each has as its level how many calls were kept before it.
+    pub fn at(&self, level: u32) -> Option<CrossEntry>
+        ensures { option_map crossing_of result ≡ call_at self.now.calls level }
+    {
+        at(&self.entries, level as usize).copied()
     }
 
     /// Keeps a call, for which there is room.

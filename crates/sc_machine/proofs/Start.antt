@@ -28,7 +28,7 @@ all_few image formed = λ i d within. (formed.comps i (get_or _ i d) (slice_get-
 
 -- Regions one after another, from an address on.
 
-abbrev Ordered : ℕ → List Region → Type 0
+abbrev pub Ordered : ℕ → List Region → Type 0
 Ordered low [] = Unit {0}
 Ordered low (region ∷ regions) = (low ≤ region.start) × Ordered (region.start + region.bytes) regions
 
@@ -39,7 +39,7 @@ starts_from (region ∷ regions) low zero d order within = order.0
 starts_from (region ∷ regions) low (suc i) d order within =
     omega (arith, order.0, starts_from regions _ i d order.1 (omega (arith, within)))
 
-apart_by : (regions : List Region) (low : ℕ) → Ordered low regions → AreApart regions
+pub apart_by : (regions : List Region) (low : ℕ) → Ordered low regions → AreApart regions
 apart_by [] low order i j d before within a one other = absurd (omega (arith, within))
 apart_by (region ∷ regions) low order zero zero d before within a one other = absurd (omega (arith, before))
 apart_by (region ∷ regions) low order zero (suc j) d before within a one other =

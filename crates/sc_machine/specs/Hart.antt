@@ -1,4 +1,4 @@
--- Helping: what instructions change, as the state that it stands for.
+-- What instructions change, as the state that it stands for.
 use Rattle.sc_machine.specs.Common.{Goes, ImageParts, ByteMemory, Outcome, MachineState, Traps, start_memory}
 use Rattle.std.specs.Prelude.{◌≡◌, ◌+◌, ◌<◌, ◌≤◌, ℕ, All, length, is_some, map, vec_capacity, Result, Ok, Err, OnErr}
 use Rattle.sc_base.specs.declared.stop.TrapReason.{TrapReason}

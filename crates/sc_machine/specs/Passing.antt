@@ -1,4 +1,4 @@
--- Helping: what is called, and what passes in the registers.
+-- What is called, and what passes in the registers.
 use Rattle.sc_base.specs.Prelude.{most_params}
 use Rattle.sc_machine.specs.Common.{ImageParts, cleared_for_call, cleared_for_return, comp_of_code, entered_export}
 use Rattle.sc_machine.specs.Common.{gate}

@@ -1,4 +1,4 @@
--- Helping: a compartment of an image, and what is looked up of it.
+-- A compartment of an image, and what is looked up of it.
 use Rattle.sc_machine.specs.Common.{ImageParts, IsWellFormed, code_in, code_start, data_start, initial_globals}
 use Rattle.sc_image.specs.Prelude.{has_heap}
 use Rattle.sc_machine.specs.Common.{most_globals}

@@ -1,4 +1,4 @@
--- Helping: the zones of a machine, as contracts see them.
+-- The zones of a machine, as contracts see them.
 use Rattle.std.specs.Prelude.{Bool, List}
 use Rattle.sc_zone.specs.declared.span.Span.{Span}
 

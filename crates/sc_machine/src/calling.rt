@@ -22,7 +22,7 @@ use std::alloc::Global;
 
 /// A function of another compartment that may be called.
 #[derive(Clone, Copy)]
-pub(crate) struct Callee {
+pub struct Callee {
     /// The address where it begins.
     pub entry: u32,
     pub comp: CompId,
@@ -34,12 +34,7 @@ pub(crate) struct Callee {
 
 /// A jump out of the own code, to an address that is a multiple of 4. It is a call where the address
 /// of the next instruction is put into ra.
-pub(crate) fn call_out(
-    here: &Here<'_>,
-    hart: &mut Hart,
-    rd: u8,
-    target: u32,
-) -> Result<(), TrapReason>
+pub fn call_out(here: &Here<'_>, hart: &mut Hart, rd: u8, target: u32) -> Result<(), TrapReason>
     requires pc { hart.old.core.pc + 4 < 2 ^ 32 }
     requires ready { IsReady here.now hart.old }
     ensures outcome { (memory : ByteMemory) → outcome_of result (state_in memory hart.new) ≡

@@ -15,11 +15,7 @@ use sc_event::Event;
 use sc_image::layout::{A0, A7, ALLOC, FREE, INPUT, OUTPUT};
 
 #[inline(never)]
-pub(crate) fn environment_call(
-    here: &Here<'_>,
-    inputs: &[i32],
-    hart: &mut Hart,
-) -> Result<(), TrapReason>
+pub fn environment_call(here: &Here<'_>, inputs: &[i32], hart: &mut Hart) -> Result<(), TrapReason>
     requires pc { hart.old.core.pc + 4 < 2 ^ 32 }
     requires ready { IsReady here.now hart.old }
     ensures outcome { (memory : ByteMemory) → outcome_of result (state_in memory hart.new) ≡

@@ -10,7 +10,7 @@ use sc_registers::Core;
 
 /// What instructions change, apart from memory.
 #[derive(Drop)]
-pub(crate) struct Hart {
+pub struct Hart {
     pub core: Core,
     /// The compartment whose code runs.
     pub active: CompId,

@@ -23,7 +23,7 @@ use std::marker::Model;
 /// A compartment of an image, with its code, the bounds of its data and what it may call. Contracts
 /// see the image and the compartment's number.
 #[derive(Drop)]
-pub(crate) struct Here<'a> {
+pub struct Here<'a> {
     program: &'a Program,
     comp: CompId,
     code: &'a [u32],

@@ -18,14 +18,14 @@ use sc_registers::{Core, compares};
 use sc_word::add;
 
 /// Where a jump from the pc leads.
-pub(crate) fn jump_target(core: &Core, imm: JumpOffset) -> u32
+pub fn jump_target(core: &Core, imm: JumpOffset) -> u32
     ensures { result ≡ add_word core.now.pc (word_of imm) }
 {
     add(core.pc, imm.value().cast_unsigned())
 }
 
 /// Where a branch from the pc leads.
-fn branch_target(core: &Core, imm: BranchOffset) -> u32
+pub fn branch_target(core: &Core, imm: BranchOffset) -> u32
     ensures { result ≡ add_word core.now.pc (word_of imm) }
 {
     add(core.pc, imm.value().cast_unsigned())

@@ -19,6 +19,17 @@ mod returning;
 mod run;
 mod zones;
 
+pub use calling::{Callee, call_out};
+pub use environment::environment_call;
+pub use hart::Hart;
+pub use here::Here;
+pub use jump::{branch_target, jump_target};
+pub use loading::{start_hart, start_memory};
 pub use machine::{LoadFault, Machine};
+pub use memory::{load_size, loaded, put, store_size};
 pub use own_view::OwnView;
+pub use program::Program;
+pub use returning::leave;
+pub use run::stopped;
 pub use sc_base::{Stop, TrapReason};
+pub use zones::Zones;

@@ -23,7 +23,7 @@ use sc_store::{Region, Store};
 use std::alloc::{AllocError, Global};
 
 /// At the image's entry, with room for `events` events.
-pub(crate) fn start(alloc: Global, image: &Image, events: u32) -> Result<Hart, OutOfMemory>
+pub fn start_hart(alloc: Global, image: &Image, events: u32) -> Result<Hart, OutOfMemory>
     ensures state { IfOk result (λ hart. state_in (start_memory image.now) hart ≡ start image.now) }
     ensures sound { IfOk result (IsSound image.now) }
     ensures room { IfOk result (HasRoom events) }
@@ -64,7 +64,7 @@ fn stack_tops(alloc: Global, comps: &[CompPart]) -> Result<Vec<u32>, AllocError>
 }
 
 /// Stacks and zones of zeros, and globals with the image's bytes.
-pub(crate) fn start_memory<S: Store>(alloc: Global, image: &Image) -> Result<S, OutOfMemory>
+pub fn start_memory<S: Store>(alloc: Global, image: &Image) -> Result<S, OutOfMemory>
     ensures { IfOk result (λ memory. S.bytes memory ≡ start_memory image.now) }
 {
     let comps = image.parts().comps.as_slice();

@@ -14,7 +14,7 @@ ghost use Rattle.sc_zone.specs.Prelude.{words_at};
 
 use crate::hart::Hart;
 use crate::here::Here;
-use crate::loading::{start, start_memory};
+use crate::loading::{start_hart, start_memory};
 use crate::own_view::OwnView;
 use crate::program::Program;
 use crate::run::run;
@@ -103,7 +103,7 @@ impl<S: Store> Machine<S> {
         let Ok(memory) = start_memory(alloc, &image) else {
             return Err(LoadFault::OutOfMemory(image));
         };
-        let Ok(hart) = start(alloc, &image, events) else {
+        let Ok(hart) = start_hart(alloc, &image, events) else {
             return Err(LoadFault::OutOfMemory(image));
         };
         let program = match Program::new(alloc, image) {

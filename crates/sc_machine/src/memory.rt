@@ -78,7 +78,7 @@ fn refused(here: &Here<'_>, size: u32, address: u32) -> Option<TrapReason>
 }
 
 /// How many bytes the load reads.
-fn load_size(op: LoadOp) -> u32
+pub fn load_size(op: LoadOp) -> u32
     ensures size { result ≡ load_size op }
     ensures some { 0 < result }
     ensures few { result ≤ 4 }
@@ -91,7 +91,7 @@ fn load_size(op: LoadOp) -> u32
 }
 
 /// How many bytes the store writes.
-fn store_size(op: StoreOp) -> u32
+pub fn store_size(op: StoreOp) -> u32
     ensures size { result ≡ store_size op }
     ensures some { 0 < result }
     ensures few { result ≤ 4 }
@@ -105,7 +105,7 @@ fn store_size(op: StoreOp) -> u32
 
 /// The word that is loaded from an address. Whole words, the most frequent, are loaded without a call.
 #[inline(always)]
-fn loaded<S: Store>(memory: &S, op: LoadOp, address: u32) -> u32
+pub fn loaded<S: Store>(memory: &S, op: LoadOp, address: u32) -> u32
     requires { HasBytes (S.bytes memory.now) address (load_size op) }
     ensures { result ≡ extended op (load_of (S.bytes memory.now) address (load_size op)) }
 {
@@ -155,7 +155,7 @@ fn signed_half(half: u32) -> u32
 
 /// Puts the lowest bytes of a word at an address. Whole words are put without a call.
 #[inline(always)]
-fn put<S: Store>(memory: &mut S, op: StoreOp, address: u32, word: u32)
+pub fn put<S: Store>(memory: &mut S, op: StoreOp, address: u32, word: u32)
     requires { HasBytes (S.bytes memory.old) address (store_size op) }
     ensures { S.bytes memory.new ≡ with_bytes (S.bytes memory.old) address (store_size op) word }
 {

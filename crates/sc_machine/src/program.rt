@@ -18,7 +18,7 @@ type Callees = Items<Callee>;
 
 /// An image, with the functions that each of its compartments may call. Contracts see the image.
 #[derive(Drop)]
-pub(crate) struct Program {
+pub struct Program {
     image: Image,
     callees: Vec<Callees>,
 }

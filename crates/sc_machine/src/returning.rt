@@ -14,7 +14,7 @@ use sc_image::layout::{A0, SP};
 use sc_registers::Core;
 
 /// Returns to the latest caller that waits. Where none does, the run ends.
-pub(crate) fn leave(here: &Here<'_>, hart: &mut Hart)
+pub fn leave(here: &Here<'_>, hart: &mut Hart)
     requires ready { IsReady here.now hart.old }
     ensures state { (memory : ByteMemory) → state_in memory hart.new ≡
         on_return here.now.image (state_in memory hart.old) hart.old.cross.calls }

@@ -56,7 +56,7 @@ pub(crate) fn run<S: Store>(
 
 /// Why a run with this trace stops before another step, if it does.
 #[tactic(auto, unfolding(sc_image::specs::Machine::stopped))]
-fn stopped(events: u32, trace: &[Event]) -> Option<Stop>
+pub fn stopped(events: u32, trace: &[Event]) -> Option<Stop>
     ensures { result ≡ stopped events trace.now }
 {
     if is_ended(trace) {

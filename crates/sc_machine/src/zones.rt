@@ -15,7 +15,7 @@ use std::marker::Model;
 /// A zone of each compartment that has a heap. Contracts see the live blocks of each compartment, none where it has no
 /// zone, and which compartments have one.
 #[derive(Drop)]
-pub(crate) struct Zones {
+pub struct Zones {
     each: Vec<Option<Zone>>,
 }
 

@@ -8,7 +8,7 @@ use Rattle.sc_object.proofs.Found.{OfComp, has_it, none_differs, none_missing, n
 use Rattle.sc_object.proofs.Faults.{no_fault}
 use Rattle.sc_object.proofs.Programs.{has_entries}
 use Rattle.sc_object.proofs.Alike.{SaysSame}
-use Rattle.sc_object.proofs.Splitting.{main_word_of}
+use Rattle.sc_object.proofs.Splitting.{main_word_of, of_image}
 
 module _ (image : ImageParts) (formed : IsWellFormed image) (entries : HasEntries image) (objects : List ObjectParts)
     (are : AreObjectsOf image objects) where
@@ -103,6 +103,7 @@ links image (head ∷ later) formed entries are =
 
 pub link_is_compile : LinkIsCompile
 link_is_compile = record {
+  object = λ program image c is formed low. of_image image formed (has_entries program image is) c low _ refl;
   link = λ program image objects is formed are. links image objects formed (has_entries program image is) are;
   image = λ program image joined objects is formed are joins. joined_is image formed (has_entries program image is)
       objects are joined joins;

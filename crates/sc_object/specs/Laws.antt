@@ -7,6 +7,7 @@ use Rattle.sc_image.specs.declared.parts.ImageParts.{ImageParts}
 use Rattle.sc_object.specs.declared.parts.ObjectParts.{ObjectParts}
 use Rattle.sc_object.specs.Joining.{IsJoined, object_of}
 use Rattle.sc_object.specs.Linking.{join_fault}
+use Rattle.sc_object.specs.WellFormed.{IsObject}
 
 -- the objects of all compartments of an image, each once, in any order
 pub record AreObjectsOf (image : ImageParts) (objects : List ObjectParts) : Type 0 where
@@ -20,9 +21,11 @@ pub record AreObjectsOf (image : ImageParts) (objects : List ObjectParts) : Type
   pub all : (c : ℕ) → c < length image.comps →
       (i : ℕ) × (object : ObjectParts) × (slice_get objects i ≡ Some object) × (object.own ≡ c)
 
--- Linking is compiling: the objects of all sections of a program are joined to its image, in any order. What `compile`
--- gives is well formed.
+-- Linking is compiling: the objects of all sections of a program, which can be written, are joined to its image, in any
+-- order. What `compile` gives is well formed.
 pub record LinkIsCompile : Type 0 where
+  pub object : (program : ProgramTree) (image : ImageParts) (c : ℕ) → image_of program ≡ Ok image →
+      IsWellFormed image → c < length image.comps → IsObject (object_of image c)
   pub link : (program : ProgramTree) (image : ImageParts) (objects : List ObjectParts) → image_of program ≡ Ok image →
       IsWellFormed image → AreObjectsOf image objects → join_fault objects ≡ None
   pub image : (program : ProgramTree) (image joined : ImageParts) (objects : List ObjectParts) →

@@ -16,13 +16,18 @@ pub use Rattle.sc_image.proofs.Common.{slice_get_within, start, starts_block, st
 pub use Rattle.sc_image.proofs.Common.{store_size, subst, suc, sym, true, unless_trap, with_bytes, with_stored}
 pub use Rattle.sc_image.proofs.Common.{word_loaded, zero, zone_of, ℕ, if◌then◌else◌, ◌%◌, ◌&&◌, ◌*◌, ◌+◌, ◌-◌, ◌/◌, ◌<◌}
 pub use Rattle.sc_image.proofs.Common.{◌==◌, ◌∙◌, ◌∷◌, ◌≡◌, ◌≤◌}
-pub use Rattle.sc_image.proofs.Memory.{allowed_data, data_bounds, one_is, one_of, owns}
+pub use Rattle.sc_image.proofs.Common.{cases_lt, true≢false, ⊎_elim}
+pub use Rattle.sc_tags.specs.Prelude.{code_byte}
+pub use Rattle.sc_image.proofs.Common.{le-leb, lt-leb, ◌||◌}
+pub use Rattle.sc_gate.specs.Waiting.{call_at}
+pub use Rattle.sc_tags.specs.declared.tag.TagRange.{TagRange}
+pub use Rattle.sc_image.proofs.Memory.{allowed_data, data_bounds, one_is, one_of, owns, owns_is}
 pub use Rattle.sc_image.proofs.Running.{any_run_keeps}
 pub use Rattle.sc_image.proofs.Words.{comp_found, entry_code, if_some, in_code, some_is}
 pub use Rattle.sc_image.specs.Prelude.{environment_call, gives_by, jump_by, next_by}
 pub use Rattle.sc_image.specs.declared.parts.ImageParts.{ImageParts}
 pub use Rattle.sc_store.proofs.Words.{load_of-stored, stored-at}
-pub use Rattle.sc_tags.specs.Prelude.{CapabilitiesAreLinear, Tagged, TagsAgree, at_level, by_tag, capabilities_of}
+pub use Rattle.sc_tags.specs.Prelude.{CapabilitiesAreLinear, Tagged, TagsAgree, at_level, by_tag}
 pub use Rattle.sc_tags.specs.Prelude.{carried_called, code_word, core_of, is_tag, leveled, lifted, on_tag_call}
 pub use Rattle.sc_tags.specs.Prelude.{on_tag_return, owner_of, returned_by, tag_at, tag_by, tag_jumps, tag_leaves}
 pub use Rattle.sc_tags.specs.Prelude.{tag_machine, tag_run, tag_start, tag_step, tagged_word, with_code, with_outcome}

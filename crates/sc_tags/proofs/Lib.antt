@@ -1,5 +1,12 @@
 mod Common
 mod Linear
+mod KnownEvents
 mod Lifting
 mod Owners
 mod Agree
+mod Bytes
+mod Untouched
+mod Stores
+mod CodeBytes
+mod Leaving
+mod TagRuns

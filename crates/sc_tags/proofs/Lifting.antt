@@ -1,7 +1,7 @@
 -- Jumps out of the code, returns and calls of the environment do the same with levels and capabilities as with a cross
 -- stack, whatever the memory is.
 use Rattle.sc_tags.proofs.Common.{Bool, ByteMemory, Crossing, Goes, ImageParts, List, MachineState, None, Option}
-use Rattle.sc_tags.proofs.Common.{Outcome, OutcomeOf, Some, Tagged, [], a7, ap, arith, at_level, capabilities_of}
+use Rattle.sc_tags.proofs.Common.{Outcome, OutcomeOf, Some, Tagged, [], a7, ap, arith, at_level, call_at}
 use Rattle.sc_tags.proofs.Common.{carried_called, comp_of_code, entered_export, environment_call, eq-eqb, eqb-true}
 use Rattle.sc_tags.proofs.Common.{export_called, false, frees, gate, has_heap, has_result, jump_outside, leaves, length}
 use Rattle.sc_tags.proofs.Common.{leveled, lifted, may_call_export, may_input, may_output, nat_eq, not, on_return}
@@ -16,29 +16,29 @@ either R false x y x' y' p q = q
 
 -- The latest capability is that of the latest call, and once it is consumed those of the calls before are left.
 
-beyond : (cross : List Crossing) (level : ℕ) → length cross ≤ level → capabilities_of cross level ≡ None
+beyond : (cross : List Crossing) (level : ℕ) → length cross ≤ level → call_at cross level ≡ None
 beyond [] level past = refl
 beyond (x ∷ xs) level past = by _ refl (beyond xs level (omega (arith, past)))
   where
-    by : (same : Bool) → nat_eq level (length xs) ≡ same → capabilities_of xs level ≡ None →
-        (if same then Some x else capabilities_of xs level) ≡ None
+    by : (same : Bool) → nat_eq level (length xs) ≡ same → call_at xs level ≡ None →
+        (if same then Some x else call_at xs level) ≡ None
     by true is earlier = let here = eqb-true level (length xs) is in absurd (omega (arith, here, past))
     by false is earlier = earlier
 
-latest : (x : Crossing) (xs : List Crossing) → capabilities_of (x ∷ xs) (length xs) ≡ Some x
+latest : (x : Crossing) (xs : List Crossing) → call_at (x ∷ xs) (length xs) ≡ Some x
 latest x xs = rw (eq-eqb (length xs) (length xs) refl) refl
 
 consumed_at : (x : Crossing) (xs : List Crossing) (level : ℕ) →
-    at_level (length xs) None (capabilities_of (x ∷ xs)) level ≡ capabilities_of xs level
+    at_level (length xs) None (call_at (x ∷ xs)) level ≡ call_at xs level
 consumed_at x xs level = by _ refl
   where
     by : (same : Bool) → nat_eq level (length xs) ≡ same →
-        (if same then None else if same then Some x else capabilities_of xs level) ≡ capabilities_of xs level
+        (if same then None else if same then Some x else call_at xs level) ≡ call_at xs level
     by true is = let here = eqb-true level (length xs) is in sym (beyond xs level (omega (arith, here)))
     by false is = refl
 
 consumed : (x : Crossing) (xs : List Crossing) →
-    ◌≡◌ {A = ℕ → Option Crossing} (at_level (length xs) None (capabilities_of (x ∷ xs))) (capabilities_of xs)
+    ◌≡◌ {A = ℕ → Option Crossing} (at_level (length xs) None (call_at (x ∷ xs))) (call_at xs)
 consumed x xs = λ i level. consumed_at x xs level i
 
 -- a jump there isn't to an own export's entry

@@ -1,6 +1,6 @@
 -- Each step keeps one live capability at each level below the call level, and none at another.
-use Rattle.sc_tags.proofs.Common.{AtNext, Bool, Branch, CapabilitiesAreLinear, Crossing, Ebreak, Ecall, Fence}
-use Rattle.sc_tags.proofs.Common.{Goes, ImageParts, Instr, Jal, Jalr, Load, MachineState, None, Op, OpImm}
+use Rattle.sc_tags.proofs.Common.{AtNext, Bool, Branch, ByteMemory, CapabilitiesAreLinear, Crossing, Ebreak, Ecall, Fence}
+use Rattle.sc_tags.proofs.Common.{Goes, ImageParts, Instr, Jal, Jalr, List, Load, None, Op, OpImm}
 use Rattle.sc_tags.proofs.Common.{Option, Outcome, OutcomeOf, Protection, Shift, Some, Store, Tagged}
 use Rattle.sc_tags.proofs.Common.{TrapReason, Traps, Upper, any_run_keeps, arith, by_tag, carried_called}
 use Rattle.sc_tags.proofs.Common.{compares, decoded, entered_export, eqb-true, execute_by, false, if_decoded}
@@ -10,9 +10,10 @@ use Rattle.sc_tags.proofs.Common.{nat_tests, not, on_tag_call, on_tag_return, re
 use Rattle.sc_tags.proofs.Common.{tag_jumps, tag_leaves, tag_start, true, unless_trap, with_outcome, zero}
 use Rattle.sc_tags.proofs.Common.{BadJump, NoImport, comp_of_code, export_params, ℕ, ◌%◌, ◌==◌, ◌∙◌, ◌≡◌}
 
--- What holds of a state whatever its core is, a step keeps if jumps out of the code and calls of the environment do.
+-- What doesn't look at registers, pc and memory a step keeps, if jumps out of the code and calls of the environment do.
 module _ {M : Type 0} (protection : Protection M) (P : M → Type 0) (state : M)
-    (keeps : (core : MachineState) → P (protection.carrier.changed state core))
+    (keeps : (regs : List ℕ) (pc : ℕ) (memory : ByteMemory) → P (protection.carrier.changed state
+    (record (protection.carrier.seen state) { regs = regs; pc = pc; memory = memory })))
     (jal : (rd target : ℕ) → AtNext P (protection.jal_leaves state rd target))
     (jalr : (rd target : ℕ) → AtNext P (protection.jalr_leaves state rd target))
     (environment : AtNext P (protection.environment state)) where
@@ -20,8 +21,9 @@ module _ {M : Type 0} (protection : Protection M) (P : M → Type 0) (state : M)
   record Keeps (outcome : OutcomeOf M) : Type 0 where
     pub next : AtNext P outcome
 
-  goes : (core : MachineState) → Keeps (Goes (protection.carrier.changed state core))
-  goes core = record { next = keeps core }
+  goes : (regs : List ℕ) (pc : ℕ) (memory : ByteMemory) → Keeps (Goes (protection.carrier.changed state
+      (record (protection.carrier.seen state) { regs = regs; pc = pc; memory = memory })))
+  goes regs pc memory = record { next = keeps regs pc memory }
 
   traps : (reason : TrapReason) → Keeps (Traps reason)
   traps reason = record { next = tt }
@@ -33,7 +35,7 @@ module _ {M : Type 0} (protection : Protection M) (P : M → Type 0) (state : M)
   jumps : (inside : Bool) (rd target : ℕ) (elsewhere : OutcomeOf M) → Keeps elsewhere →
       Keeps (jump_by protection.carrier inside state rd target elsewhere)
   jumps inside rd target elsewhere h =
-      either (not (target % 4 == 0)) _ _ (traps _) (either inside _ elsewhere (goes _) h)
+      either (not (target % 4 == 0)) _ _ (traps _) (either inside _ elsewhere (goes _ _ _) h)
 
   accesses : (why : Option TrapReason) (x : OutcomeOf M) → Keeps x → Keeps (unless_trap why x)
   accesses None x h = h
@@ -41,16 +43,16 @@ module _ {M : Type 0} (protection : Protection M) (P : M → Type 0) (state : M)
 
   executes : (instr : Instr) → Keeps (execute_by protection state instr)
   unfolding execute_by
-  executes (Upper op rd imm) = goes _
+  executes (Upper op rd imm) = goes _ _ _
   executes (Jal rd imm) = jumps _ rd _ _ (record { next = jal rd _ })
   executes (Jalr rd rs1 imm) = jumps _ rd _ _ (record { next = jalr rd _ })
-  executes (Branch op rs1 rs2 imm) = either (compares op _ _) _ _ (jumps _ 0 _ _ (traps _)) (goes _)
-  executes (Load op rd rs1 imm) = accesses _ _ (goes _)
-  executes (Store op rs1 rs2 imm) = accesses _ _ (goes _)
-  executes (OpImm op rd rs1 imm) = goes _
-  executes (Shift op rd rs1 amount) = goes _
-  executes (Op op rd rs1 rs2) = goes _
-  executes (Fence imm rs1 rd) = goes _
+  executes (Branch op rs1 rs2 imm) = either (compares op _ _) _ _ (jumps _ 0 _ _ (traps _)) (goes _ _ _)
+  executes (Load op rd rs1 imm) = accesses _ _ (goes _ _ _)
+  executes (Store op rs1 rs2 imm) = accesses _ _ (goes _ _ _)
+  executes (OpImm op rd rs1 imm) = goes _ _ _
+  executes (Shift op rd rs1 amount) = goes _ _ _
+  executes (Op op rd rs1 rs2) = goes _ _ _
+  executes (Fence imm rs1 rd) = goes _ _ _
   executes Ecall = record { next = environment }
   executes Ebreak = traps _
 
@@ -124,6 +126,6 @@ module _ (image : ImageParts) (tagged : Tagged) (h : IsLinear tagged) where
 pub capabilities_linear : CapabilitiesAreLinear
 capabilities_linear image ranges inputs steps events =
     any_run_keeps (by_tag image ranges inputs) events IsLinear
-    (λ tagged h early. step_keeps (by_tag image ranges inputs) IsLinear tagged (λ core. h) (jumps_keep image tagged h)
+    (λ tagged h early. step_keeps (by_tag image ranges inputs) IsLinear tagged (λ regs pc memory. h) (jumps_keep image tagged h)
     (leaves_keep image tagged h) (outcome_keeps image tagged h _))
     steps (tag_start image) (λ l. sym (le-ltb l 0 (omega arith)))

@@ -1,7 +1,10 @@
 pub mod Common
 pub mod Prelude
 pub mod Tags
+pub mod CodeBytes
 pub mod Tagged
 pub mod Levels
 pub mod TagStep
+pub mod TagHart
+pub mod Progress
 pub mod TagLaws

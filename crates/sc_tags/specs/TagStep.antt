@@ -1,6 +1,6 @@
 -- The machine with tags: it executes what is tagged as code of the active compartment, and loads and stores what is
 -- tagged as its data.
-use Rattle.sc_tags.specs.Common.{Carrier, Goes, ImageParts, Outcome, OutcomeOf, Protection, RunOf}
+use Rattle.sc_tags.specs.Common.{ByteMemory, Carrier, Goes, ImageParts, Outcome, OutcomeOf, Protection, RunOf}
 use Rattle.sc_tags.specs.Common.{TagRange}
 use Rattle.sc_tags.specs.Common.{Traps, comp_of_code, entered_export, environment_call, export_params, gate, load_of}
 use Rattle.sc_tags.specs.Common.{Code, Data, may_call_export, ra, run_by, step_by}
@@ -43,16 +43,16 @@ abbrev pub with_outcome : Tagged → Outcome → OutcomeOf Tagged
 with_outcome tagged (Goes core) = Goes (record tagged { core = core })
 with_outcome tagged (Traps reason) = Traps reason
 
--- the word at an address, where its four bytes are the active compartment's code
-abbrev pub tagged_word : ImageParts → List TagRange → Tagged → (address : ℕ) → Option ℕ
-tagged_word image ranges tagged address =
-    if nat_eq (address % 4) 0 && all_tagged (tag_at image ranges) (Code tagged.core.active) address 4
-    then Some (load_of tagged.core.memory address 4) else None
+-- the word at an address, where its four bytes are compartment c's code
+abbrev pub tagged_word : ImageParts → List TagRange → (c : ℕ) → ByteMemory → (address : ℕ) → Option ℕ
+tagged_word image ranges c memory address =
+    if nat_eq (address % 4) 0 && all_tagged (tag_at image ranges) (Code c) address 4
+    then Some (load_of memory address 4) else None
 
 abbrev pub by_tag : ImageParts → List TagRange → List ℕ → Protection Tagged
 by_tag image ranges inputs = record {
   carrier = core_of;
-  fetched = tagged_word image ranges;
+  fetched = λ tagged. tagged_word image ranges tagged.core.active tagged.core.memory;
   may_load = λ tagged. all_tagged (tag_at image ranges) (Data tagged.core.active);
   may_store = λ tagged. all_tagged (tag_at image ranges) (Data tagged.core.active);
   jal_leaves = tag_jumps image;

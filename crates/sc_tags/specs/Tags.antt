@@ -3,7 +3,7 @@ use Rattle.sc_tags.specs.Common.{ByteMemory, ByteTag, Code, Data, ImageParts, Ta
 use Rattle.sc_tags.specs.Common.{comp_of_code, comp_of_data, start_memory, word_at}
 use Rattle.std.specs.Prelude.{Bool, List, Option, fold, false, if◌then◌else◌, is_some, length, nat_eq, nat_le, nat_lt}
 use Rattle.std.specs.Prelude.{suc}
-use Rattle.std.specs.Prelude.{true, zero, ℕ, ◌%◌, ◌&&◌, ◌*◌, ◌+◌, ◌/◌}
+use Rattle.std.specs.Prelude.{true, zero, ℕ, ◌%◌, ◌&&◌, ◌*◌, ◌+◌, ◌/◌, ◌^◌, ◌≤◌}
 use Rattle.std.specs.Option.{option_map, option_or}
 
 -- the word of code that the byte at an address is one of, whoever's
@@ -24,6 +24,10 @@ owner_of image address =
 
 abbrev pub is_in_range : TagRange → (address : ℕ) → Bool
 is_in_range range address = nat_le range.start address && nat_lt address (range.start + range.bytes)
+
+-- no range reaches beyond the last address
+abbrev pub IsWithinAddresses : TagRange → Type 0
+IsWithinAddresses range = range.start + range.bytes ≤ 2 ^ 32
 
 -- the tag of an owned byte after one more range
 abbrev pub retagged : (address : ℕ) → ByteTag → TagRange → ByteTag

@@ -1,3 +1,6 @@
+ghost use Rattle.sc_tags.specs.Prelude.{IsWithinAddresses};
+ghost use Rattle.std.specs.Prelude.{IsTrue, ◌↔◌};
+
 use sc_event::CompId;
 
 /// What a byte of memory is tagged as.
@@ -17,4 +20,13 @@ pub struct TagRange {
     pub start: u32,
     pub bytes: u32,
     pub tag: ByteTag,
+}
+
+impl TagRange {
+    /// Whether it has no more bytes than there are addresses from its start on.
+    pub fn is_within(&self) -> bool
+        ensures { IsTrue result ↔ IsWithinAddresses self.now }
+    {
+        u64::from(self.start) + u64::from(self.bytes) <= 1 << 32
+    }
 }

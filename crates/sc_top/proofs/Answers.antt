@@ -64,6 +64,7 @@ reads_nothing (Run options) none = absurd (none-some 1048576 (sym none))
 reads_nothing (Explain options show) none = absurd (none-some 1048576 (sym none))
 reads_nothing (Judge options) none = absurd (none-some 1048576 (sym none))
 reads_nothing (Exec options) none = absurd (none-some 67108864 (sym none))
+reads_nothing (commands.Tags options range) none = absurd (none-some 67108864 (sym none))
 reads_nothing (Make options) none =
     record { same = λ bytes other text o. o; none = λ bytes s h. nothing_fails (Make options) bytes s h }
 
@@ -196,6 +197,7 @@ good_output (Judge options) bytes out o = record {
   holds = explained_text (Judge options) refl options (drop o.read.rest bytes) o.has;
 }
 good_output (Exec options) bytes out o = o.read
+good_output (commands.Tags options range) bytes out o = o.read
 good_output (Make options) bytes out o = tt
 
 -- What an answer is: an output, more bytes than the limit, or a cause.

@@ -1,10 +1,15 @@
--- What is asked of `explain`, `judge` and `make` is bounded.
-use Rattle.sc_top.proofs.Common.{Bool, Check, Command, Compile, Exec, Explain, IsBounded, IsInput, IsWithinLimit, Judge}
-use Rattle.sc_top.proofs.Common.{List, Object}
+-- What is asked of `explain`, `judge`, `make` and `tags` is bounded.
+use Rattle.sc_top.proofs.Common.{All, Bool, Check, Command, Compile, Exec, Explain, IsBounded, IsInput, IsWithinLimit, Judge}
+use Rattle.sc_top.proofs.Common.{List, Object, [], ◌+◌, ◌∷◌}
 use Rattle.sc_top.proofs.Common.{Make, MakeOptions, Meaning, None, Option, Run, RunOptions, Some, arith, codes, false}
 use Rattle.sc_top.proofs.Common.{if◌then◌else◌, leb-true, nat_le, none-some, option_and_then, option_map, refl, subst}
 use Rattle.sc_top.proofs.Common.{true, ℕ, ℤ, ◌&&◌, ◌≡◌, ◌≤◌}
 use Rattle.sc_top_words.specs.Prelude.{given_value, has_option, number_within, number, when_within}
+use Rattle.sc_top_words.specs.Prelude.{pieces, range_of, range_within}
+use Rattle.sc_top_words.specs.declared.command.DataRange.{DataRange}
+use Rattle.sc_tags.specs.Prelude.{IsWithinAddresses}
+use Rattle.sc_top.specs.Tagged.{ranges_of}
+use Rattle.std.proofs.lemmas.List.Elements.{All-cons, All-nil}
 use Rattle.std.specs.Str.{bytes_eq}
 use Rattle.sc_top_words.specs.Words as words
 use Rattle.sc_top_words.specs.declared.command.Command.TheVariants as commands
@@ -68,6 +73,57 @@ of_make (Some size) (Some seed) summary options sizes seeds is =
       word = omega (arith, few);
     })
 
+-- no byte of a range lies beyond the last address
+of_range_within : (start bytes comp : ℕ) (low : Bool) → nat_le (start + bytes) 4294967296 ≡ low → (range : DataRange) →
+    (if low then Some (record { start = start; bytes = bytes; comp = comp }) else None) ≡ Some range →
+    range.start + range.bytes ≤ 4294967296
+of_range_within start bytes comp true low range is =
+    subst (λ (range : DataRange). range.start + range.bytes ≤ 4294967296) (same_value _ range is)
+    (leb-true (start + bytes) 4294967296 low)
+of_range_within start bytes comp false low range is = absurd (none-some range is)
+
+of_range_by : (start bytes comp : Option ℕ) (range : DataRange) → option_and_then (λ start. option_and_then (λ bytes.
+    option_and_then (λ comp. range_within start bytes comp) comp) bytes) start ≡ Some range →
+    range.start + range.bytes ≤ 4294967296
+of_range_by None bytes comp range is = absurd (none-some range is)
+of_range_by (Some start) None comp range is = absurd (none-some range is)
+of_range_by (Some start) (Some bytes) None range is = absurd (none-some range is)
+of_range_by (Some start) (Some bytes) (Some comp) range is = of_range_within start bytes comp _ refl range is
+
+of_range : (texts : List (List ℕ)) (range : DataRange) → range_of texts ≡ Some range →
+    range.start + range.bytes ≤ 4294967296
+of_range [] range is = absurd (none-some range is)
+of_range (start ∷ []) range is = absurd (none-some range is)
+of_range (start ∷ bytes ∷ []) range is = absurd (none-some range is)
+of_range (start ∷ bytes ∷ comp ∷ []) range is =
+    of_range_by (number_within 0 4294967295 start) (number_within 0 4294967295 bytes) (number_within 0 31 comp) range is
+of_range (start ∷ bytes ∷ comp ∷ more ∷ rest) range is = absurd (none-some range is)
+
+of_ranges : (found : Option DataRange) → ((range : DataRange) → found ≡ Some range →
+    range.start + range.bytes ≤ 4294967296) → (range : Option DataRange) → option_map Some found ≡ Some range →
+    All IsWithinAddresses (ranges_of range)
+of_ranges None low range is = absurd (none-some range is)
+of_ranges (Some found) low range is =
+    subst (λ range. All IsWithinAddresses (ranges_of range)) (same_value (Some found) range is)
+    (All-cons IsWithinAddresses _ [] (low found refl) (All-nil IsWithinAddresses))
+
+of_data : (value : Option (List ℕ)) (range : Option DataRange) → words.data_range value ≡ Some range →
+    All IsWithinAddresses (ranges_of range)
+of_data None range is =
+    subst (λ range. All IsWithinAddresses (ranges_of range)) (same_value None range is) (All-nil IsWithinAddresses)
+of_data (Some text) range is = of_ranges (range_of (pieces text)) (of_range (pieces text)) range is
+
+of_tags : (run : Option RunOptions) (value : Option (List ℕ)) (c : Command) →
+    option_and_then (λ options. option_map (λ range. commands.Tags options range) (words.data_range value)) run ≡ Some c →
+    IsBounded c
+of_tags None value c is = absurd (none-some c is)
+of_tags (Some options) value c is = by (words.data_range value) refl is
+  where
+    by : (range : Option (Option DataRange)) → words.data_range value ≡ range →
+        option_map (λ range. commands.Tags options range) range ≡ Some c → IsBounded c
+    by None at is = absurd (none-some c is)
+    by (Some range) at is = subst IsBounded (same_value _ c is) (of_data value range at)
+
 -- a command by its options
 mapped : {A : Type 0} (make : A → Command) (found : Option A) → ((a : A) → found ≡ Some a → IsBounded (make a)) →
     (c : Command) → option_map make found ≡ Some c → IsBounded c
@@ -88,12 +144,13 @@ with_values name value summary c =
     (either (bytes_eq name _) _ _ c (mapped Object _ _ c)
     (either (bytes_eq name _) _ _ c (λ is. subst IsBounded (same_value commands.Link c is) tt)
     (either (bytes_eq name _) _ _ c (mapped Run _ _ c) (either (bytes_eq name _) _ _ c (mapped Exec _ _ c)
+    (either (bytes_eq name _) _ _ c (of_tags _ (value _) c)
     (either (bytes_eq name _) _ _ c (of_explain _ _ c (λ options. of_run (words.limit (value _))
     (words.events (value _)) (words.inputs (value _)) options (of_events (value _))))
     (either (bytes_eq name _) _ _ c (mapped Judge _ (λ options. of_run (words.limit (value _))
     (words.events (value _)) (words.inputs (value _)) options (of_events (value _))) c)
     (either (bytes_eq name _) _ _ c (mapped Make _ (λ options. of_make _ _ summary options
-    (of_value 1 1000 (value _)) (of_value 0 4294967295 (value _))) c) (λ is. absurd (none-some c is)))))))))))
+    (of_value 1 1000 (value _)) (of_value 0 4294967295 (value _))) c) (λ is. absurd (none-some c is))))))))))))
 
 of_parsed : (read : Option (List ℕ × List (List ℕ × List ℕ))) (c : Command) →
     option_and_then (λ read. words.command_with read.0 (λ name. given_value name read.1)

@@ -12,6 +12,14 @@ use Rattle.sc_event.proofs.Known.{legal_is_known}
 use Rattle.sc_word.proofs.Words.{word_of-lt}
 use Rattle.sc_base.specs.declared.stop.Stop.{Stop}
 use Rattle.sc_top_words.specs.declared.command.MeaningOptions.{MeaningOptions}
+use Rattle.sc_top_words.specs.declared.command.DataRange.{DataRange}
+use Rattle.sc_tags.specs.Prelude.{TagTracesAreKnown, tag_machine, tag_run as tagged_on}
+use Rattle.sc_tags.specs.Progress.{TagProgress, tag_loaded, tag_run_of}
+use Rattle.sc_tags.specs.declared.tag.TagRange.{TagRange}
+use Rattle.sc_image.specs.Prelude.{continued}
+use Rattle.sc_store.specs.Prelude.{ByteMemory}
+use Rattle.sc_top.specs.Tagged.{IsTagged, ranges_of, tag_run, tag_text}
+use Rattle.std.specs.Prelude.{Option}
 
 pub within : {A : Type 0} (xs : List A) (n : ℕ) → n < length xs → IsSome (slice_get xs n)
 within [] n lt = absurd (omega arith)
@@ -108,3 +116,34 @@ pub executed : (options : RunOptions) (bytes text : List ℕ) (image : ImagePart
     IsWellFormed image → text ≡ machine_text (image_interfaces image) options image → IsExecuted options bytes text
 executed options bytes text image bytes_are formed printed =
     record { read = record { image = image; well_formed = formed; bytes_are = bytes_are }; written = printed }
+
+-- The machine with tags.
+
+pub tag_run_known : TagTracesAreKnown → (options : RunOptions) (range : Option DataRange) (image : ImageParts) →
+    IsWellFormed image → All (IsKnown (image_interfaces image)) (tag_run options range image).state.core.trace
+tag_run_known known options range image formed = known image (ranges_of range) _ _ _ formed
+
+-- the run's text, from what was found of the run
+pub tag_printed : {E : Type 0} (r : Result (List ℕ) E) (names : Interfaces) (options : RunOptions)
+    (range : Option DataRange) (image : ImageParts) (trace : List Event) (stop : Stop) →
+    trace ≡ (tag_run options range image).state.core.trace → stop ≡ (tag_run options range image).stop →
+    IfOk r (λ text. text ≡ run_text names trace stop) → IfOk r (λ text. text ≡ tag_text names options range image)
+tag_printed (Ok text) names options range image trace stop events why printed = printed ∙ rw (events, why) refl
+tag_printed (Err fault) names options range image trace stop events why printed = tt
+
+pub tagged : (options : RunOptions) (range : Option DataRange) (bytes text : List ℕ) (image : ImageParts) →
+    AreBytesOf image bytes → IsWellFormed image → text ≡ tag_text (image_interfaces image) options range image →
+    IsTagged options range bytes text
+tagged options range bytes text image bytes_are formed printed =
+    record { read = record { image = image; well_formed = formed; bytes_are = bytes_are }; written = printed }
+
+-- a machine with tags that was loaded and called once
+pub called_once : {S : Type 0} (bytes : S → ByteMemory) (old new : TagProgress S) (image : ImageParts)
+    (ranges : List TagRange) (inputs : List ℕ) (steps events : ℕ) → tag_run_of bytes new ≡
+    continued (tagged_on old.machine.image old.ranges old.machine.inputs old.machine.events steps)
+    (tag_run_of bytes old) → old.machine.image ≡ image → old.ranges ≡ ranges → old.machine.inputs ≡ inputs →
+    old.machine.events ≡ events → tag_run_of bytes old ≡ tag_loaded image →
+    tag_run_of bytes new ≡ tag_machine image ranges inputs steps events
+called_once bytes old new image ranges inputs steps events ran same_image same_ranges same_inputs same_events loads =
+    ran ∙ ((λ i. continued (tagged_on (same_image i) (same_ranges i) (same_inputs i) (same_events i) steps)
+    (tag_run_of bytes old)) ∙ ap (continued (tagged_on image ranges inputs events steps)) loads)

@@ -8,7 +8,9 @@ pub mod Executed
 pub mod Known
 pub mod Large
 pub mod Lengths
+pub mod Linked
 pub mod Made
 pub mod Objects
 pub mod Outputs
 pub mod Streams
+pub mod TaggedRuns

@@ -4,12 +4,14 @@ use Rattle.sc_top.proofs.Common.{IsExecuted, IsMadeBy, IsOutput, IsOutputCause, 
 use Rattle.sc_top.proofs.Common.{ProgramTree, RunOptions, [], ap, compiles, false, image_interfaces, machine_text}
 use Rattle.sc_top.proofs.Common.{HoldsOfText, IsPolicyRead, IsUnfit, PolicyRead, intake, output}
 use Rattle.sc_top.proofs.Common.{refl, subst, sym, true, ℕ, ◌∙◌, ◌≡◌, HasSection, IsLinked, IsObjectOutput, None}
-use Rattle.sc_top.proofs.Common.{Some, ap₂, comp_named, none-some, section_of}
+use Rattle.sc_top.proofs.Common.{Option, Some, ap₂, comp_named, none-some, section_of}
 use Rattle.sc_object.specs.Prelude.{BytesNameOneList, IsJoined, join_as, object_bytes, object_of}
 use Rattle.sc_image.specs.Prelude.{image_bytes}
 use Rattle.sc_top_words.specs.declared.command.Command.TheVariants as commands
 use Rattle.sc_top.specs.declared.failure.Failure.TheVariants as failure
 use Rattle.sc_top.proofs.Causes.{same_some}
+use Rattle.sc_top.specs.Tagged.{IsTagged, tag_text}
+use Rattle.sc_top_words.specs.declared.command.DataRange.{DataRange}
 use Rattle.sc_top.proofs.Chains.{one_account, one_summary, one_verdict}
 
 -- a command that asks for no section has what it asks for
@@ -95,6 +97,7 @@ same_output (commands.Run options) program one other same = ap (output (commands
 same_output (commands.Explain options show) program one other same = refl
 same_output (commands.Judge options) program one other same = refl
 same_output (commands.Exec options) program one other same = refl
+same_output (commands.Tags options range) program one other same = refl
 same_output (commands.Make options) program one other same = refl
 
 -- a program has one image
@@ -120,6 +123,13 @@ module _
       IsExecuted options bytes other → text ≡ other
   one_run one options bytes text other is known =
       is.written ∙ (ap (λ i. machine_text (image_interfaces i) options i)
+      (one bytes _ _ is.read.well_formed known.read.well_formed is.read.bytes_are known.read.bytes_are)
+      ∙ sym known.written)
+
+  one_tagged : BytesNameOneImage → (options : RunOptions) (range : Option DataRange) (bytes text other : List ℕ) →
+      IsTagged options range bytes text → IsTagged options range bytes other → text ≡ other
+  one_tagged one options range bytes text other is known =
+      is.written ∙ (ap (λ i. tag_text (image_interfaces i) options range i)
       (one bytes _ _ is.read.well_formed known.read.well_formed is.read.bytes_are known.read.bytes_are)
       ∙ sym known.written)
 
@@ -166,4 +176,6 @@ module _
     one_output (commands.Judge options) bytes text other is known =
         one_verdict one_program one_policy options bytes text other is known
     one_output (commands.Exec options) bytes text other is known = one_run one options bytes text other is known
+    one_output (commands.Tags options range) bytes text other is known =
+        one_tagged one options range bytes text other is known
     one_output (commands.Make options) bytes text other is known = one_made _ options text other is known

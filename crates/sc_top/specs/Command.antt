@@ -5,7 +5,7 @@ use Rattle.std.specs.Prelude.{ℕ, List, drop, Option, Some, None}
 use Rattle.sc_policy.specs.Prelude.{IsPolicyRead}
 use Rattle.sc_policy.specs.declared.read.PolicyRead.{PolicyRead}
 use Rattle.sc_top_words.specs.declared.command.Command.TheVariants.{Check, Meaning, Compile, Run, Exec, Explain}
-use Rattle.sc_top_words.specs.declared.command.Command.TheVariants.{Judge, Link, Make, Object}
+use Rattle.sc_top_words.specs.declared.command.Command.TheVariants.{Judge, Link, Make, Object, Tags}
 
 -- a text, a policy that a text follows, an image, or objects, of at most `limit` bytes, or nothing
 pub data Intake : Type 0 where
@@ -25,6 +25,7 @@ intake (Run options) = Text most_compiled
 intake (Explain options show) = Text most_compiled
 intake (Judge options) = PolicyAndText most_compiled
 intake (Exec options) = Image most_image
+intake (Tags options range) = Image most_image
 intake (Make options) = Nothing
 
 abbrev pub limit_in : Intake → Option ℕ

@@ -10,5 +10,6 @@ pub mod Laws
 pub mod Objects
 pub mod Output
 pub mod Status
+pub mod Tagged
 pub mod Texts
 pub mod Writing

@@ -28,6 +28,7 @@ use Rattle.sc_object.specs.Prelude.{IsObjectOf, object_bytes}
 use Rattle.sc_object.specs.declared.parts.ObjectParts.{ObjectParts}
 use Rattle.sc_top.specs.Committed.{IsCommitted, text_after}
 use Rattle.sc_top.specs.Objects.{HasSection, IsLinked, comp_named}
+use Rattle.sc_top.specs.Tagged.{IsTagged}
 use Rattle.sc_top_words.specs.declared.command.Command.TheVariants as commands
 use Rattle.sc_top_words.specs.declared.command.MakeOptions.{MakeOptions}
 use Rattle.sc_top_words.specs.declared.command.MeaningOptions.{MeaningOptions}
@@ -59,6 +60,7 @@ compiles (commands.Object options) = true
 compiles commands.Link = false
 compiles (commands.Run options) = true
 compiles (commands.Exec options) = false
+compiles (commands.Tags options range) = false
 compiles (commands.Explain options show) = true
 compiles (commands.Judge options) = true
 compiles (commands.Make options) = false
@@ -80,6 +82,7 @@ output (commands.Object options) program image = []
 output commands.Link program image = []
 output (commands.Run options) program image = machine_text program.interfaces options image
 output (commands.Exec options) program image = []
+output (commands.Tags options range) program image = []
 output (commands.Explain options show) program image = []
 output (commands.Judge options) program image = []
 output (commands.Make options) program image = []
@@ -174,6 +177,7 @@ abbrev pub IsOutput : Command → List ℕ → List ℕ → Type 0
 IsOutput (commands.Explain options show) bytes text = IsAccounted options show bytes text
 IsOutput (commands.Judge options) bytes text = IsJudged options bytes text
 IsOutput (commands.Exec options) bytes text = IsExecuted options bytes text
+IsOutput (commands.Tags options range) bytes text = IsTagged options range bytes text
 IsOutput (commands.Make options) bytes text = IsMade options text
 IsOutput commands.Check bytes text = IsTextOutput commands.Check bytes text
 IsOutput (commands.Meaning options) bytes text = IsTextOutput (commands.Meaning options) bytes text

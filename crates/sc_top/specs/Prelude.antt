@@ -8,7 +8,7 @@ pub use Rattle.sc_top_words.specs.Prelude.{most_steps}
 unfoldable pub use Rattle.sc_top_words.specs.Prelude.{command}
 pub use Rattle.sc_top_words.specs.declared.command.Command.{Command}
 pub use Rattle.sc_top_words.specs.declared.command.Command.TheVariants.{Check, Compile, Exec, Explain, Judge, Meaning}
-pub use Rattle.sc_top_words.specs.declared.command.Command.TheVariants.{Link, Object, Run}
+pub use Rattle.sc_top_words.specs.declared.command.Command.TheVariants.{Link, Object, Run, Tags}
 pub use Rattle.sc_top.specs.Answer.{Answers, FindsBad, FindsBadJoin, FindsBadLine, FindsBadObject, FindsNoSection}
 pub use Rattle.sc_top.specs.Answer.{FindsUnfit, IsAnswer, IsGood, IsInput, IsSilent, IsUndisturbed, LacksSection}
 pub use Rattle.sc_top.specs.Answer.{IsUnfit, IsWhole, IsWithin, IsWithinLimit, Prints, Refuses, SameAnswer, Says}
@@ -20,7 +20,8 @@ pub use Rattle.sc_top.specs.Failure.{IsInputCause, IsJoining, IsOutputCause, of_
 pub use Rattle.sc_top.specs.Failure.{of_objects_fault, of_policy_fault, of_read_fault, of_text_fault, of_words_fault}
 pub use Rattle.sc_top.specs.Failure.{status_by, status_of}
 pub use Rattle.sc_top.specs.Fetching.{Fetches}
-pub use Rattle.sc_top.specs.Laws.{CompiledImagesRun, RunsAs}
+pub use Rattle.sc_top.specs.Laws.{AreAllObjects, CompiledImagesRun, ExplainedAreTagged, IsTaggedRun}
+pub use Rattle.sc_top.specs.Laws.{LinkingIsCompiling, LinksTo, RunsAs, TagsRunAsExec}
 pub use Rattle.sc_top.specs.Objects.{CanBeLinked, HasBadJoin, HasBadObject, HasSection, IsLinked, bad_join_in}
 pub use Rattle.sc_top.specs.Objects.{comp_named, face_name, join_by_name, section_of}
 pub use Rattle.sc_top.specs.Output.{IsObjectOutput}
@@ -32,6 +33,7 @@ pub use Rattle.sc_top.specs.Output.{meaning_asked, output}
 pub use Rattle.sc_top.specs.Status.{bytes_of, fixed_text, join_text, joined_text, kind_text, large_text, object_text}
 pub use Rattle.sc_top.specs.Status.{own_text, owner_text, phase_word}
 pub use Rattle.sc_top.specs.Status.{refusal_text, status_number, status_text}
+pub use Rattle.sc_top.specs.Tagged.{IsTagged, ranges_of, tag_run, tag_text}
 pub use Rattle.sc_top.specs.Texts.{ArePerforming, IsBounded, IsCompiling, IsNamed, IsReading, of_compile_fault}
 pub use Rattle.sc_top.specs.Texts.{replacement_of}
 pub use Rattle.sc_top.specs.Writing.{Wrote}

@@ -12,6 +12,8 @@ use Rattle.sc_top.specs.declared.failure.Failure.TheVariants.{Refused, TooLarge,
 use Rattle.sc_top.specs.declared.status.TooLarge as large
 use Rattle.sc_top.specs.Large.{by_name, large_in}
 use Rattle.sc_top_words.specs.declared.command.Command.TheVariants as commands
+use Rattle.sc_tags.specs.Prelude.{IsWithinAddresses}
+use Rattle.sc_top.specs.Tagged.{ranges_of}
 
 -- why a text isn't read as a program
 abbrev pub IsReading : List ℕ → Failure → Type 0
@@ -19,12 +21,13 @@ IsReading bytes (Refused refusal) = Fails bytes refusal.phase refusal.line
 IsReading bytes OutOfMemory = Unit {0}
 IsReading bytes _ = ⊥
 
--- the options of `explain` and `judge` allow so few events that compartments can perform them, and those of `make` are
--- such that programs are made from them
+-- the options of `explain` and `judge` allow so few events that compartments can perform them, those of `make` are such
+-- that programs are made from them, and those of `tags` name no byte beyond the last address
 abbrev pub IsBounded : Command → Type 0
 IsBounded (commands.Explain options show) = options.events ≤ most_events
 IsBounded (commands.Judge options) = options.events ≤ most_events
 IsBounded (commands.Make options) = IsAsked options.size options.seed
+IsBounded (commands.Tags options range) = All IsWithinAddresses (ranges_of range)
 IsBounded command = Unit {0}
 
 -- what a link replaces

@@ -14,7 +14,7 @@ pub(crate) fn limit(command: &Command) -> Option<u32>
         | Command::Run(_)
         | Command::Explain(_, _)
         | Command::Judge(_) => Some(1_048_576),
-        Command::Exec(_) | Command::Link => Some(67_108_864),
+        Command::Exec(_) | Command::Tags(_, _) | Command::Link => Some(67_108_864),
         Command::Make(_) => None,
     }
 }

@@ -1,14 +1,16 @@
 //! What holds of every text.
 
 ghost use Rattle.sc_base.specs.Prelude.{most_image};
-ghost use Rattle.sc_top.specs.Prelude.{Command, CompiledImagesRun, IsAnswer, IsOutput, SameAnswer};
+ghost use Rattle.sc_top.specs.Prelude.{Command, CompiledImagesRun, ExplainedAreTagged, IsAnswer, IsOutput};
+ghost use Rattle.sc_top.specs.Prelude.{LinkingIsCompiling, SameAnswer, TagsRunAsExec};
 ghost use Rattle.sc_image.specs.Prelude.{IsImage};
 ghost use Rattle.std.specs.Prelude.{◌≡◌, ◌≤◌, ℕ, List, length};
 ghost use Rattle.sc_top.specs.declared.status.Status.{Status};
 
 use sc_image::one_image;
-use sc_object::{bytes_name_one_list, one_first_bad};
+use sc_object::{bytes_name_one_list, link_is_compile, one_first_bad};
 use sc_policy::{one_policy, policy_or_bad};
+use sc_tags::tags_agree;
 use sc_types::{accepted_or_refused, one_phase, one_program};
 
 /// An image is never longer than the command takes that reads it.
@@ -48,4 +50,28 @@ pub fn compiled_images_run()
 {
     one_program();
     one_image();
+}
+
+/// What `object` writes for all sections of a text is good input of `link`, which writes for it what `compile` writes
+/// for the text, in whatever order the objects come.
+pub fn linking_is_compiling()
+    ensures { LinkingIsCompiling }
+{
+    one_program();
+    bytes_name_one_list();
+    link_is_compile();
+}
+
+/// Without a range `tags` writes for an image what `exec` writes for it.
+pub fn tags_run_as_exec()
+    ensures { TagsRunAsExec }
+{
+    tags_agree();
+}
+
+/// The trace that `explain` accounts for, and why it stops, are those of the machine with tags, too.
+pub fn explained_are_tagged()
+    ensures { ExplainedAreTagged }
+{
+    tags_agree();
 }

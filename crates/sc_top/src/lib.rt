@@ -15,10 +15,14 @@ mod object;
 mod output;
 mod printing;
 mod status;
+mod tags;
 mod text;
 mod top;
 
-pub use laws::{compiled_images_run, images_are_within, one_answer, one_output};
+pub use laws::{
+    compiled_images_run, explained_are_tagged, images_are_within, linking_is_compiling, one_answer,
+    one_output, tags_run_as_exec,
+};
 pub use printing::print;
 pub use status::{BadJoin, Status, TooLarge};
 pub use top::secomp;

@@ -17,6 +17,7 @@ use crate::make::make;
 use crate::object::object;
 use crate::output::write_text;
 use crate::printing::print;
+use crate::tags::tags;
 use crate::text::{check, compiled, meaning, run};
 use sc_base::Text;
 use sc_edge::{Sink, Source};
@@ -98,7 +99,7 @@ fn answer<S: Source, O: Sink>(
 {
     let command = read_command(alloc, words)?;
     let bytes = read_input(alloc, &command, source)?;
-    let text = output(alloc, &command, bytes.as_bytes())?;
+    let text = output(alloc, &command, bytes)?;
     match write_text(out, text.as_bytes()) {
         Ok(()) => Ok(()),
         Err(_) => Err(Failure::WriteFault),
@@ -106,22 +107,23 @@ fn answer<S: Source, O: Sink>(
 }
 
 // The command's output for these bytes.
-fn output(alloc: Global, command: &Command, bytes: &[u8]) -> Result<Text, Failure>
+fn output(alloc: Global, command: &Command, bytes: Text) -> Result<Text, Failure>
     requires bounded { IsBounded command.now }
-    requires within { IsWithin command.now bytes.now }
-    ensures ok { IfOk result (IsOutput command.now bytes.now) }
-    ensures cause { IfErr result (IsOutputCause command.now bytes.now) }
+    requires within { IsWithin command.now bytes }
+    ensures ok { IfOk result (IsOutput command.now bytes) }
+    ensures cause { IfErr result (IsOutputCause command.now bytes) }
 {
     match command {
-        Command::Check => check(alloc, bytes),
-        Command::Meaning(options) => meaning(alloc, options, bytes),
-        Command::Compile => compiled(alloc, bytes),
-        Command::Object(options) => object(alloc, options, bytes),
+        Command::Check => check(alloc, bytes.as_bytes()),
+        Command::Meaning(options) => meaning(alloc, options, bytes.as_bytes()),
+        Command::Compile => compiled(alloc, bytes.as_bytes()),
+        Command::Object(options) => object(alloc, options, bytes.as_bytes()),
         Command::Link => link(alloc, bytes),
-        Command::Run(options) => run(alloc, options, bytes),
-        Command::Exec(options) => execute(alloc, options, bytes),
-        Command::Explain(options, show) => explain(alloc, options, *show, bytes),
-        Command::Judge(options) => judge(alloc, options, bytes),
+        Command::Run(options) => run(alloc, options, bytes.as_bytes()),
+        Command::Exec(options) => execute(alloc, options, bytes.as_bytes()),
+        Command::Tags(options, range) => tags(alloc, options, *range, bytes.as_bytes()),
+        Command::Explain(options, show) => explain(alloc, options, *show, bytes.as_bytes()),
+        Command::Judge(options) => judge(alloc, options, bytes.as_bytes()),
         Command::Make(options) => Ok(make(alloc, options)?),
     }
 }

@@ -52,7 +52,10 @@ names_of_forms = by_command _ commands (
                   (refl, refl),
                   (
                     (refl, refl),
-                    tt,
+                    (
+                      (refl, refl),
+                      tt,
+                    ),
                   ),
                 ),
               ),

@@ -73,7 +73,7 @@ pub record IsReadUpTo (text : List ℕ) (count : ℕ) (done : List ℤ) (left : 
   pub pieces : length (pieces text) ≡ count + length (pieces left)
 
 -- the pieces that are left
-cut : (left : List ℕ) → ((pieces_after left ≡ None) × (pieces left ≡ first_piece left ∷ []))
+pub cut : (left : List ℕ) → ((pieces_after left ≡ None) × (pieces left ≡ first_piece left ∷ []))
     ⊎ ((following : List ℕ) × (pieces_after left ≡ Some following) ×
     (pieces left ≡ first_piece left ∷ pieces following))
 cut left = go _ refl

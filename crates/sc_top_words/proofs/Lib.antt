@@ -4,6 +4,7 @@ mod Basics
 mod Digits
 mod Level
 mod Lookup
+mod Pieces
 mod Reading
 mod Rows
 mod Top

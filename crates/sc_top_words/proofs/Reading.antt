@@ -8,7 +8,8 @@ use Rattle.sc_top_words.proofs.Common.{one_text-rows, option_and_then, option_ma
 use Rattle.sc_top_words.proofs.Common.{same_text, subcommand_of, subcommand_rows, subcommand_rows_of, subst, sym}
 use Rattle.sc_top_words.proofs.Common.{text_to_show, true, ◌∙◌, ◌≡◌}
 use Rattle.sc_top_words.specs.declared.command.Command.TheVariants.{Exec, Explain, Judge, Make, Meaning, Object, Run}
-use Rattle.sc_top_words.specs.Prelude.{section_name}
+use Rattle.sc_top_words.specs.declared.command.Command.TheVariants.{Tags}
+use Rattle.sc_top_words.specs.Prelude.{data_range, section_name}
 use Rattle.std.specs.Box.{box_value}
 use Rattle.clap.specs.Matches.{first_value, one_text, subcommand_name_of}
 use Rattle.clap.specs.declared.parser.matches.ArgMatches.{ArgMatches}
@@ -56,18 +57,23 @@ values_same = by_command Same commands (
             (
               (λ settings rows summary says. ap (option_map Exec) (runs_same _ settings rows says refl refl refl refl)),
               (
-                (λ settings rows summary says i. option_and_then (λ options. option_map (λ show. Explain options show)
-                    (text_to_show (says.values (codes "show") refl refl i)))
+                (λ settings rows summary says i. option_and_then (λ options. option_map (λ range. Tags options range)
+                    (data_range (says.values (codes "data") refl refl i)))
                     (runs_same _ settings rows says refl refl refl refl i)),
                 (
-                  (λ settings rows summary says. ap (option_map Judge)
-                      (runs_same _ settings rows says refl refl refl refl)),
+                  (λ settings rows summary says i. option_and_then (λ options. option_map (λ show. Explain options show)
+                      (text_to_show (says.values (codes "show") refl refl i)))
+                      (runs_same _ settings rows says refl refl refl refl i)),
                   (
-                    (λ settings rows summary says i. option_map Make (option_and_then (λ size.
-                        option_map (λ seed. record { size = size; seed = seed; summary = summary })
-                        (option_and_then (number_within 0 4294967295) (says.values (codes "seed") refl refl i)))
-                        (option_and_then (number_within 1 1000) (says.values (codes "size") refl refl i)))),
-                    tt,
+                    (λ settings rows summary says. ap (option_map Judge)
+                        (runs_same _ settings rows says refl refl refl refl)),
+                    (
+                      (λ settings rows summary says i. option_map Make (option_and_then (λ size.
+                          option_map (λ seed. record { size = size; seed = seed; summary = summary })
+                          (option_and_then (number_within 0 4294967295) (says.values (codes "seed") refl refl i)))
+                          (option_and_then (number_within 1 1000) (says.values (codes "size") refl refl i)))),
+                      tt,
+                    ),
                   ),
                 ),
               ),

@@ -4,11 +4,14 @@ use Rattle.std.specs.Prelude.{ℕ, ℤ, Bool, if◌then◌else◌, List, [], ◌
 use Rattle.std.specs.Prelude.{option_map, find}
 use Rattle.std.specs.Str.{bytes_eq}
 use Rattle.sc_number.specs.Numbers.{number_within}
+use Rattle.sc_top_words.specs.Ranges.{range_of}
 use Rattle.sc_top_words.specs.Numbers.{integer_list}
+unfoldable use Rattle.sc_top_words.specs.Numbers.{pieces}
 use Rattle.sc_top_words.specs.Options.{Form, Given, has_option, options, given_value}
 use Rattle.sc_top_words.specs.declared.command.Command.{Command}
 use Rattle.sc_top_words.specs.declared.command.Command.TheVariants.{Check, Meaning, Compile, Run, Exec, Explain}
-use Rattle.sc_top_words.specs.declared.command.Command.TheVariants.{Judge, Link, Make, Object}
+use Rattle.sc_top_words.specs.declared.command.Command.TheVariants.{Judge, Link, Make, Object, Tags}
+use Rattle.sc_top_words.specs.declared.command.DataRange.{DataRange}
 use Rattle.sc_top_words.specs.declared.command.MakeOptions.{MakeOptions}
 use Rattle.sc_top_words.specs.declared.command.MeaningOptions.{MeaningOptions}
 use Rattle.sc_top_words.specs.declared.command.ObjectOptions.{ObjectOptions}
@@ -35,6 +38,7 @@ commands =
     (codes "link", with_values []) ∷
     (codes "run", with_values (codes "steps" ∷ codes "events" ∷ codes "in" ∷ [])) ∷
     (codes "exec", with_values (codes "steps" ∷ codes "events" ∷ codes "in" ∷ [])) ∷
+    (codes "tags", with_values (codes "steps" ∷ codes "events" ∷ codes "in" ∷ codes "data" ∷ [])) ∷
     (codes "explain", with_values (codes "steps" ∷ codes "events" ∷ codes "in" ∷ codes "show" ∷ [])) ∷
     (codes "judge", with_values (codes "steps" ∷ codes "events" ∷ codes "in" ∷ [])) ∷
     (codes "make", make_form) ∷ []
@@ -96,6 +100,16 @@ explain value =
     option_and_then (λ options. option_map (λ show. Explain options show) (text_to_show (value (codes "show"))))
     (run_options value)
 
+-- the bytes that are tagged as data of a compartment, if the option is given
+abbrev pub data_range : Option Text → Option (Option DataRange)
+data_range None = Some None
+data_range (Some text) = option_map Some (range_of (pieces text))
+
+abbrev pub tags : Values → Option Command
+tags value =
+    option_and_then (λ options. option_map (λ range. Tags options range) (data_range (value (codes "data"))))
+    (run_options value)
+
 -- the name that a section may have: an identifier, but `Env` is the environment's
 abbrev pub section_name : Text → Option Text
 section_name text = if bytes_eq text (codes "Env") then None else name_of text
@@ -124,10 +138,11 @@ command_with name value summary =
     else (if bytes_eq name (codes "link") then Some Link
     else (if bytes_eq name (codes "run") then option_map Run (run_options value)
     else (if bytes_eq name (codes "exec") then option_map Exec (run_options value)
+    else (if bytes_eq name (codes "tags") then tags value
     else (if bytes_eq name (codes "explain") then explain value
     else (if bytes_eq name (codes "judge") then option_map Judge (run_options value)
     else (if bytes_eq name (codes "make") then option_map Make (make value summary)
-    else None)))))))))
+    else None))))))))))
 
 -- the command that the words are
 unfoldable pub command : List Text → Option Command

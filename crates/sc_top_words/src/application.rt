@@ -17,6 +17,7 @@ pub(crate) fn application<'a>(alloc: Global) -> Result<Command<'a>, AllocError>
         .subcommand(Command::new(alloc, "link"))?
         .subcommand(running(alloc, "run", "steps")?)?
         .subcommand(running(alloc, "exec", "steps")?)?
+        .subcommand(tags(alloc)?)?
         .subcommand(explain(alloc)?)?
         .subcommand(running(alloc, "judge", "steps")?)?
         .subcommand(make(alloc)?)
@@ -42,6 +43,13 @@ fn running<'a>(alloc: Global, name: &'a str, limit: &'a str) -> Result<Command<'
         .arg(valued(alloc, limit))?
         .arg(valued(alloc, "events"))?
         .arg(valued(alloc, "in"))
+}
+
+fn tags<'a>(alloc: Global) -> Result<Command<'a>, AllocError>
+    ensures { IfOk result (IsCommandOf (codes "tags")
+        (with_values (codes "steps" ∷ codes "events" ∷ codes "in" ∷ codes "data" ∷ []))) }
+{
+    running(alloc, "tags", "steps")?.arg(valued(alloc, "data"))
 }
 
 fn explain<'a>(alloc: Global) -> Result<Command<'a>, AllocError>

@@ -1,4 +1,5 @@
 use sc_base::Name;
+use sc_event::CompId;
 use sqlite_items::Items;
 use std::fmt;
 
@@ -19,6 +20,8 @@ pub enum Command {
     Run(RunOptions),
     /// What the machine does on an image.
     Exec(RunOptions),
+    /// What the machine with tags does on an image, where the bytes of a range, if there is one, are tagged as data.
+    Tags(RunOptions, Option<DataRange>),
     /// The events of the machine on a program, and the chain of texts that accounts for them. With a number, the text
     /// of the chain that is to be written in place of that report, at most 32.
     Explain(RunOptions, Option<u32>),
@@ -65,6 +68,16 @@ pub struct RunOptions {
     pub events: u32,
     /// At most 65,536 of them.
     pub inputs: Items<i32>,
+}
+
+/// Bytes that are tagged as data of a compartment.
+#[derive(Clone, Copy, Debug, PartialEq, Eq)]
+pub struct DataRange {
+    /// The address of the first.
+    pub start: u32,
+    /// How many there are. None of them has an address past 4,294,967,295.
+    pub bytes: u32,
+    pub comp: CompId,
 }
 
 /// Which program is made.

@@ -7,6 +7,7 @@
 //! | `compile`, `link` | none |
 //! | `object` | `--section C` |
 //! | `run`, `exec`, `judge` | `--steps N`, `--events M`, `--in LIST` |
+//! | `tags` | `--steps N`, `--events M`, `--in LIST`, `--data START,BYTES,C` |
 //! | `explain` | `--steps N`, `--events M`, `--in LIST`, `--show K` |
 //! | `make` | `--size K`, `--seed N`, `--summary` |
 //!
@@ -21,6 +22,7 @@
 //! | M of `--events` | 0 to 4,096 | 1,024 |
 //! | LIST of `--in` | 1 to 65,536 integers from -2147483648 to 2147483647 with single commas between them | no integers
 //! |
+//! | START,BYTES,C of `--data` | 0 to 4,294,967,295, the first two at most 4,294,967,296 together; 0 to 31 | none |
 //! | K of `--show` | 0 to 32 | none |
 //! | K of `--size` | 1 to 1,000 | |
 //! | N of `--seed` | 0 to 4,294,967,295 | |
@@ -34,11 +36,12 @@ mod application;
 mod command;
 mod fault;
 mod numbers;
+mod ranges;
 mod read;
 mod usage_text;
 mod values;
 
-pub use command::{Command, MakeOptions, MeaningOptions, ObjectOptions, RunOptions};
+pub use command::{Command, DataRange, MakeOptions, MeaningOptions, ObjectOptions, RunOptions};
 pub use fault::WordsFault;
 pub use read::read_command;
 pub use usage_text::usage;

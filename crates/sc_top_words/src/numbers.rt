@@ -42,9 +42,9 @@ pub(crate) fn read_list(alloc: Global, text: &str) -> Result<Items<i32>, WordsFa
     Err(WordsFault::Usage)
 }
 
-// What stands before the first comma, and what follows it, if there is one.
+/// What stands before the first comma, and what follows it, if there is one.
 #[tactic(auto, using(crate::proofs::Digits::no_comma))]
-fn first_piece(text: &str) -> (&str, Option<&str>)
+pub(crate) fn first_piece(text: &str) -> (&str, Option<&str>)
     ensures piece { result.0.now ≡ first_piece text.now }
     ensures following { option_map (λ rest. rest.now) result.1 ≡ pieces_after text.now }
 {

@@ -7,32 +7,28 @@ pub fn usage() -> &'static [u8]
     ensures { result.now ≡ usage_text }
 {
     b"secomp: usage
-  secomp COMMAND [OPTION]... <INPUT
-
-commands
-  check     the compartments of a program, and what they import and export
-  meaning   what the program does by the meaning of its source
+  secomp COMMAND [OPTION]... <INPUT     options as --name value or --name=value
+  check     what the compartments of a text import and export
+  meaning   what the text does by the meaning of its source
   compile   its machine image
   object    one section's part of that image
   link      the machine image of all sections' objects
-  run       what the machine does on that image
+  run       what the machine does on the image of a text
   explain   the same, and the sections to replace so that the source does it too
-  judge     the same, and what a policy says of it
+  judge     the same for a text after a policy, and what the policy says of it
   exec      what the machine does on an image
-  make      a program made from two numbers
-
-options, as --name value or --name=value, each at most once
+  tags      what a machine that protects by tags on bytes does on an image
+  make      a program made from two numbers, with no input
+options, each at most once; in parentheses what holds where one is not given
   --turns N    meaning: at most N turns, 0 to 16777216 (1000000)
-  --steps N    run, exec, explain, judge: up to N steps, 0 to 16777216 (1000000)
+  --steps N    run, exec, tags, explain, judge: N steps, 0 to 16777216 (1000000)
   --events M   with --turns or --steps: at most M events, 0 to 4096 (1024)
   --in LIST    likewise: 1 to 65536 signed 32-bit inputs (none), as --in=-5,3
+  --data S,B,C tags: B bytes from address S on are compartment C's data (none)
   --show K     explain: only the text after K replacements, 0 to 32
   --section C  object, needed: the name of the section
   --size K     make, needed: how many functions, 1 to 1000
   --seed N     make, needed: which program, 0 to 4294967295
   --summary    make: a summary of the program in place of its text
-In parentheses stands what holds where the option is not given.
-exec reads an image, link objects, judge a policy and a text, make nothing, the
-others a text.
 "
 }

@@ -1,12 +1,16 @@
-ghost use Rattle.sc_top_words.specs.Prelude.{command_with, events, explain, flag_text, found_of, inputs, limit, make};
+ghost use Rattle.sc_top_words.specs.Prelude.{command_with, data_range, events, explain, flag_text, found_of};
+ghost use Rattle.sc_top_words.specs.Prelude.{inputs, limit, make};
 ghost use Rattle.sc_top_words.specs.Prelude.{meaning_options, number_within, object, run_options, section};
-ghost use Rattle.sc_top_words.specs.Prelude.{section_name, text_to_show};
+ghost use Rattle.sc_top_words.specs.Prelude.{section_name, tags, text_to_show};
 ghost use Rattle.std.specs.Prelude.{◌≡◌, Bool, true, Some, None, IfOk, IsErrOf, codes, option_and_then, option_map};
 ghost use Rattle.std.specs.Str.{bytes_eq};
 ghost use Rattle.clap.specs.Words.{first_value, one_text};
 
 use crate::numbers::{read_list, read_number};
-use crate::{Command, MakeOptions, MeaningOptions, ObjectOptions, RunOptions, WordsFault};
+use crate::ranges::read_range;
+use crate::{
+    Command, DataRange, MakeOptions, MeaningOptions, ObjectOptions, RunOptions, WordsFault,
+};
 use clap::ArgMatches;
 use sc_base::Name;
 use sqlite_items::Items;
@@ -47,6 +51,8 @@ pub(crate) fn command_with(
         Ok(Command::Run(run_options(alloc, options)?))
     } else if name == "exec" {
         Ok(Command::Exec(run_options(alloc, options)?))
+    } else if name == "tags" {
+        tags(alloc, options)
     } else if name == "explain" {
         explain(alloc, options)
     } else if name == "judge" {
@@ -85,6 +91,15 @@ fn run_options(alloc: Global, options: &ArgMatches<'_>) -> Result<RunOptions, Wo
         events,
         inputs,
     })
+}
+
+fn tags(alloc: Global, options: &ArgMatches<'_>) -> Result<Command, WordsFault>
+    ensures ok { IfOk result (λ read. tags (first_value (found_of options.now)) ≡ Some read) }
+    ensures usage { IsErrOf result WordsFault.Usage → tags (first_value (found_of options.now)) ≡ None }
+{
+    let run = run_options(alloc, options)?;
+    let range = data_range(options).ok_or(WordsFault::Usage)?;
+    Ok(Command::Tags(run, range))
 }
 
 fn explain(alloc: Global, options: &ArgMatches<'_>) -> Result<Command, WordsFault>
@@ -189,5 +204,15 @@ fn text_to_show(options: &ArgMatches<'_>) -> Option<Option<u32>>
     match options.get_str("show") {
         None => Some(None),
         Some(text) => read_number(text, 0, 32).map(Some),
+    }
+}
+
+// Which bytes are tagged as data, if the option is given.
+fn data_range(options: &ArgMatches<'_>) -> Option<Option<DataRange>>
+    ensures { result ≡ data_range (first_value (found_of options.now) (codes "data")) }
+{
+    match options.get_str("data") {
+        None => Some(None),
+        Some(text) => read_range(text).map(Some),
     }
 }

@@ -3,7 +3,7 @@ use memory_runs::Run;
 use std::test::Fail;
 
 // The compartment `M` outputs 7 and ends.
-pub const SEVEN: [u8; 47] = [
+pub(crate) const SEVEN: [u8; 47] = [
     0x53, 0x43, 0x49, 0x4d, 1, 0, 1, 0, 0, 0, 0, 1, 1, 0x4d, 2, 0, 0, 0, 0, 20, 0, 0, 0, 0x13,
     0x05, 0x70, 0, 0x93, 0x08, 0x20, 0, 0x73, 0, 0, 0, 0x13, 0x05, 0, 0, 0x67, 0x80, 0, 0, 0, 0, 0,
     0,
@@ -70,8 +70,10 @@ const RUNS: [(&[u8], &[u8]); 7] = [
 #[test]
 fn an_image_is_run(rt: HostRuntime) -> Result<(), Fail> {
     for (image, want) in RUNS {
-        let ran = Run::new("exec", image).run(rt.alloc())?;
-        assert!(rt; ran.wrote(0, want, b""));
+        for words in ["exec", "tags"] {
+            let ran = Run::new(words, image).run(rt.alloc())?;
+            assert!(rt; ran.wrote(0, want, b""));
+        }
     }
     Ok(())
 }

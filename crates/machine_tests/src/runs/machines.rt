@@ -9,9 +9,9 @@ use sc_store::FlatStore;
 use std::alloc::Global;
 use std::test::Fail;
 
-const START: u32 = 0x01000000;
+pub(crate) const START: u32 = 0x01000000;
 
-const STACK_TOP: u32 = 0x10010000;
+pub(crate) const STACK_TOP: u32 = 0x10010000;
 
 // An image's compartment: its name with what it offers and may call, and its code and globals.
 pub(crate) type Part<'a> = (&'a [u8], &'a [u32], &'a [u8]);
@@ -44,7 +44,12 @@ fn image(alloc: Global, parts: &[Part<'_>]) -> Result<Image, Fail> {
 }
 
 // One compartment with this code and these globals, which may read inputs and may output or not.
-fn single(alloc: Global, output: bool, code: &[u32], globals: &[u8]) -> Result<Image, Fail> {
+pub(crate) fn single(
+    alloc: Global,
+    output: bool,
+    code: &[u32],
+    globals: &[u8],
+) -> Result<Image, Fail> {
     let interface: &[u8] = if output {
         b"\x01A\x03\0\0\0\0"
     } else {
@@ -65,7 +70,7 @@ pub(crate) fn loaded(
 }
 
 // addi a0,x0,7; addi a7,x0,2; ecall; addi a0,x0,0; jalr x0,0(x1)
-const SEVEN: [u32; 5] = [0x00700513, 0x00200893, 0x00000073, 0x00000513, 0x00008067];
+pub(crate) const SEVEN: [u32; 5] = [0x00700513, 0x00200893, 0x00000073, 0x00000513, 0x00008067];
 
 #[test]
 fn outputs_and_ends(rt: HostRuntime) -> Result<(), Fail> {
@@ -222,14 +227,14 @@ fn traps_change_nothing(rt: HostRuntime) -> Result<(), Fail> {
 }
 
 // The second compartment.
-fn second() -> CompId
+pub(crate) fn second() -> CompId
     ensures { result ≡ 1 }
 {
     CompId::new(1).unwrap()
 }
 
 // `A`, which may call the function of `B` or not, and `B`, whose function `f` takes nothing and returns at once.
-fn pair(alloc: Global, imported: bool, code: &[u32]) -> Result<Image, Fail>
+pub(crate) fn pair(alloc: Global, imported: bool, code: &[u32]) -> Result<Image, Fail>
     ensures { IfOk result (λ image. length image.comps ≡ 2) }
 {
     let first: &[u8] = if imported {
@@ -253,7 +258,7 @@ fn pair(alloc: Global, imported: bool, code: &[u32]) -> Result<Image, Fail>
 const PAST_ENTRY: [u32; 2] = [0x011002b7, 0x004280e7];
 
 // lui x5,0x01100; jalr x1,0(x5); ecall
-const CALL: [u32; 3] = [0x011002b7, 0x000280e7, 0x00000073];
+pub(crate) const CALL: [u32; 3] = [0x011002b7, 0x000280e7, 0x00000073];
 
 #[test]
 fn refuses_other_jumps(rt: HostRuntime) -> Result<(), Fail> {

@@ -1,4 +1,4 @@
-use Rattle.sc_top.proofs.Common.{IsWithin, limit_of, subst, sym}
+use Rattle.sc_top.proofs.Common.{limit_of}
 use Rattle.sc_top.proofs.Asked.{asked_few, input_within}
 use Rattle.sc_top.proofs.top.answer.Goals as goal
 
@@ -7,5 +7,4 @@ output-requires-clause-bounded g c = asked_few _ c.in_ok-command.command c.in_ok
 
 pub output-requires-clause-within : goal.output-requires-clause-within
 output-requires-clause-within g c =
-    subst (IsWithin c.in_ok-command.command) (sym c.as_bytes.ensures)
-    (input_within (limit_of c.in_ok-command.command) _ _ c.in_ok-bytes.bytes c.in_ok-bytes.ensures.input)
+    input_within (limit_of c.in_ok-command.command) _ _ c.in_ok-bytes.bytes c.in_ok-bytes.ensures.input

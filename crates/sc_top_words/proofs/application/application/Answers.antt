@@ -35,10 +35,13 @@ returns c =
     c.in_ok-running-2.ensures in
     let seven = added _ _ _ _ (codes "exec") (limited (codes "steps")) c.in_ok-subcommand-7.ensures six
     c.in_ok-running-3.ensures in
-    let eight = added _ _ _ _ (codes "explain") (with_values
+    let eight = added _ _ _ _ (codes "tags") (with_values
+    (codes "steps" ∷ codes "events" ∷ codes "in" ∷ codes "data" ∷
+    [])) c.in_ok-subcommand-8.ensures seven c.in_ok-tags.ensures in
+    let nine = added _ _ _ _ (codes "explain") (with_values
     (codes "steps" ∷ codes "events" ∷ codes "in" ∷ codes "show" ∷
-    [])) c.in_ok-subcommand-8.ensures seven c.in_ok-explain.ensures in
-    let nine = added _ _ _ _ (codes "judge") (limited (codes "steps")) c.in_ok-subcommand-9.ensures eight
+    [])) c.in_ok-subcommand-9.ensures eight c.in_ok-explain.ensures in
+    let ten = added _ _ _ _ (codes "judge") (limited (codes "steps")) c.in_ok-subcommand-10.ensures nine
     c.in_ok-running-4.ensures in
-    IfOk-weaker c.subcommand-10.result _ _ (λ secomp adds.
-    added _ _ secomp _ (codes "make") make_form adds nine c.in_ok-make.ensures) c.subcommand-10.ensures
+    IfOk-weaker c.subcommand-11.result _ _ (λ secomp adds.
+    added _ _ secomp _ (codes "make") make_form adds ten c.in_ok-make.ensures) c.subcommand-11.ensures

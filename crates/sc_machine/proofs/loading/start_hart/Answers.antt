@@ -1,5 +1,5 @@
 use Rattle.sc_machine.proofs.Common.{All, All-nil, Crossing, Waiting, arith, length, refl, subst, sym, ◌<◌}
-use Rattle.sc_machine.proofs.loading.start.Goals as goal
+use Rattle.sc_machine.proofs.loading.start_hart.Goals as goal
 use Rattle.sc_image.proofs.Reached.{length-stack_tops}
 
 pub returns-clause-sound : goal.returns-clause-sound
