@@ -1,5 +1,5 @@
 -- The objects of all sections of a text are linked to its image.
-use Rattle.sc_top.proofs.Common.{Accepts, Bool, Compile, Option, inl, inr, HasImage, ImageParts, Interfaces, IsLinked}
+use Rattle.sc_top.proofs.Common.{Accepts, Bool, Compile, Option, inl, inr, HasImage, ImageParts, IsLinked}
 use Rattle.sc_top.proofs.Common.{IsObjectOutput, IsTextOutput, IsWellFormed, List, None, ProgramTree, Some, [], ap, ap₂}
 use Rattle.sc_top.proofs.Common.{arith, comp_named, concat, false, flat_map, length, length-map, map, refl, slice_get}
 use Rattle.sc_top.proofs.Common.{subst, suc, sym, true, zero, ℕ, ◌++◌, ◌+◌, ◌<◌, ◌==◌, ◌∙◌, ◌∷◌, ◌≡◌, ◌≤◌, option_map}
@@ -22,7 +22,7 @@ use Rattle.std.proofs.lemmas.List.Concat.{flat_map-cons}
 use Rattle.std.proofs.lemmas.List.Sorted.{All-permutation, Contains-permutation, IsPermutation-map}
 use Rattle.std.proofs.lemmas.List.Sorted.{length_permutation, sum_by-IsPermutation}
 use Rattle.std.proofs.lemmas.List.Sums.{sum_by-cons}
-use Rattle.std.proofs.lemmas.Option.{get_or_from_slice_get, slice_get-get_or, slice_get-map, slice_get_within, unwrap_or-slice_get}
+use Rattle.std.proofs.lemmas.Option.{get_or_from_slice_get, slice_get-get_or, slice_get-map, slice_get_within}
 use Rattle.std.specs.List.{AllZip, Contains, sum_by}
 use Rattle.std.specs.List.Sorted.{IsPermutation}
 use Rattle.std.specs.Option.{unwrap_or}

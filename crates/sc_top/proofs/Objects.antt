@@ -7,9 +7,8 @@ use Rattle.sc_core.specs.Prelude.{has_few_compartments}
 use Rattle.sc_event.specs.declared.interface.Interface.{Interface}
 use Rattle.sc_image.specs.Prelude.{IsWellFormed, image_bytes}
 use Rattle.sc_image.specs.declared.parts.ImageParts.{ImageParts}
-use Rattle.sc_object.specs.Prelude.{AreBytesOf, IsFirstBad, IsJoined, IsJoinFault, IsObjectOf, cause_number, join_fault}
+use Rattle.sc_object.specs.Prelude.{AreBytesOf, IsJoined, IsJoinFault, IsObjectOf, join_fault}
 use Rattle.sc_object.specs.Prelude.{object_bytes}
-use Rattle.sc_object.specs.declared.fault.BadObject.{BadObject}
 use Rattle.sc_object.specs.declared.linking.JoinFault.{JoinFault}
 use Rattle.sc_object.specs.declared.linking.JoinFault.TheVariants as joining
 use Rattle.sc_object.specs.declared.parts.ObjectParts.{ObjectParts}
@@ -75,12 +74,7 @@ module _ (options : ObjectOptions) (bytes : List ℕ) (program other : ProgramTr
 
 -- Linking.
 
--- the first bad object is why nothing is linked
-pub bad_object : (bytes : List ℕ) (index : ℕ) (cause : BadObject) → IsFirstBad bytes index cause →
-    IsOutputCause commands.Link bytes (failure.BadObject index (cause_number cause))
-bad_object bytes index cause first = record { why = cause; first = first; number = refl }
-
--- and so is what doesn't fit
+-- what doesn't fit is why nothing is linked
 pub join_cause : (bytes : List ℕ) (objects : List ObjectParts) (f : Failure) → AreBytesOf objects bytes →
     IsJoining objects f → IsOutputCause commands.Link bytes f
 join_cause bytes objects failure.Usage read why = why

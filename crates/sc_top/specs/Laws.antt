@@ -1,5 +1,5 @@
 -- What holds of all outputs.
-use Rattle.sc_top.specs.Common.{Accepts, Command, ProgramTree}
+use Rattle.sc_top.specs.Common.{Accepts, ProgramTree}
 use Rattle.std.specs.Prelude.{◌↔◌, ◌≡◌, List, None, map, ℕ}
 use Rattle.std.specs.List.{AllZip, concat}
 use Rattle.std.specs.List.Sorted.{IsPermutation}
