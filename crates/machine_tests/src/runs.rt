@@ -2,6 +2,7 @@
 
 mod gates;
 mod heaps;
+mod hostile;
 mod images;
 mod machines;
 mod tags;

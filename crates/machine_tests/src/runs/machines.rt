@@ -32,7 +32,7 @@ pub(crate) fn append_part(file: &mut Text, part: Part<'_>) -> Result<(), OutOfMe
 }
 
 // The image of these compartments, the first of which is the main one.
-fn image(alloc: Global, parts: &[Part<'_>]) -> Result<Image, Fail> {
+pub(crate) fn image(alloc: Global, parts: &[Part<'_>]) -> Result<Image, Fail> {
     let mut file = Text::new(alloc);
     file.append(b"SCIM\x01\0")?;
     file.append(&[u8::try_from(parts.len()).unwrap_or(0), 0])?;

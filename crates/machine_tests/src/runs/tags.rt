@@ -9,11 +9,14 @@ use sc_tags::{ByteTag, TagMachine, TagRange};
 use std::alloc::Global;
 use std::test::Fail;
 
-fn loaded(
+pub(crate) fn loaded(
     alloc: Global,
     image: Image,
     ranges: &[TagRange],
 ) -> Result<TagMachine<FlatStore>, OutOfMemory> {
+    if !ranges.iter().all(TagRange::is_within) {
+        return Err(OutOfMemory);
+    }
     TagMachine::load(alloc, image, ranges, &[], 10).map_err(|_| OutOfMemory)
 }
 
@@ -21,61 +24,65 @@ fn range(start: u32, bytes: u32, tag: ByteTag) -> TagRange {
     TagRange { start, bytes, tag }
 }
 
+fn code() -> ByteTag {
+    ByteTag::Code(CompId::first())
+}
+
+fn data() -> ByteTag {
+    ByteTag::Data(CompId::first())
+}
+
+// Whether the program that outputs 7 comes to this with these ranges, in two runs.
+fn comes_to(alloc: Global, ranges: &[TagRange], stop: Stop, events: usize) -> Result<bool, Fail> {
+    let comp = CompId::first();
+    let all = [Event::Out { comp, value: 7 }, Event::End { comp, value: 0 }];
+    let image = single(alloc, true, &SEVEN, &[])?;
+    let mut machine = loaded(alloc, image, ranges)?;
+    let first = machine.run(2);
+    let last = machine.run(100);
+    let trace = machine.trace();
+    Ok(
+        first == StepsOut
+            && last == stop
+            && trace.len() == events
+            && all.starts_with(trace)
+            && machine.level() == 0
+            && machine.capability(0).is_none(),
+    )
+}
+
 // Without ranges code and data are as in the machine with regions. The third word as data is met after two steps.
 #[test]
 fn runs_what_is_tagged_as_code(rt: HostRuntime) -> Result<(), Fail> {
-    let comp = CompId::first();
-    let all = [Event::Out { comp, value: 7 }, Event::End { comp, value: 0 }];
-    let data = ByteTag::Data(comp);
-    let code = ByteTag::Code(comp);
-    let third = range(START + 8, 4, data);
-    let one_byte = range(START + 11, 1, data);
-    for (ranges, stop, events) in [
-        (&[] as &[TagRange], Ended, 2),
-        (&[third], trap(TrapReason::BadJump, 8), 0),
-        (&[one_byte], trap(TrapReason::BadJump, 8), 0),
-        (&[third, range(START, 64, code)], Ended, 2),
-        (&[range(START + 20, 4, data)], Ended, 2),
-        (&[range(START + 8, 0, data)], Ended, 2),
-    ] {
-        let image = single(rt.alloc(), true, &SEVEN, &[])?;
-        let mut machine = loaded(rt.alloc(), image, ranges)?;
-        assert_eq!(rt; machine.run(2), StepsOut);
-        assert_eq!(rt; machine.run(100), stop);
-        assert_eq!(rt; machine.trace().len(), events);
-        assert!(rt; all.starts_with(machine.trace()));
-        assert_eq!(rt; machine.level(), 0);
-        assert!(rt; machine.capability(0).is_none());
-    }
+    let alloc = rt.alloc();
+    let met = trap(TrapReason::BadJump, 8);
+    assert!(rt; comes_to(alloc, &[], Ended, 2)?);
+    assert!(rt; comes_to(alloc, &[range(START + 8, 4, data())], met, 0)?);
+    assert!(rt; comes_to(alloc, &[range(START + 11, 1, data())], met, 0)?);
+    assert!(rt; comes_to(alloc, &[range(START + 20, 4, data())], Ended, 2)?);
+    assert!(rt; comes_to(alloc, &[range(START + 8, 0, data())], Ended, 2)?);
+    let both = [range(START + 8, 4, data()), range(START, 64, code())];
+    assert!(rt; comes_to(alloc, &both, Ended, 2)?);
     Ok(())
 }
 
 #[test]
 fn tags_by_owner_and_the_last_range(rt: HostRuntime) -> Result<(), Fail> {
-    let comp = CompId::first();
-    let (code, data) = (ByteTag::Code(comp), ByteTag::Data(comp));
     let image = single(rt.alloc(), true, &SEVEN, &[1, 2])?;
     let ranges = [
-        range(START + 4, 2, data),
-        range(STACK_TOP, 9, code),
+        range(START + 4, 2, data()),
+        range(STACK_TOP, 9, code()),
         range(START + 5, 1, ByteTag::Unowned),
     ];
     let machine = loaded(rt.alloc(), image, &ranges)?;
-    for (at, tag) in [
-        (START - 1, ByteTag::Unowned),
-        (START, code),
-        (START + 4, data),
-        (START + 5, ByteTag::Unowned),
-        (START + 6, code),
-        (START + 19, code),
-        (START + 20, ByteTag::Unowned),
-        (STACK_TOP - 1, data),
-        (STACK_TOP, code),
-        (STACK_TOP + 1, code),
-        (STACK_TOP + 2, ByteTag::Unowned),
-        (4_294_967_295, ByteTag::Unowned),
-    ] {
-        assert!(rt; machine.tag(at) == tag);
+    for at in [START, START + 6, START + 19, STACK_TOP, STACK_TOP + 1] {
+        assert!(rt; machine.tag(at) == code());
+    }
+    for at in [START + 4, STACK_TOP - 1] {
+        assert!(rt; machine.tag(at) == data());
+    }
+    for at in [START - 1, START + 5, START + 20, STACK_TOP + 2, u32::MAX] {
+        assert!(rt; machine.tag(at) == ByteTag::Unowned);
     }
     Ok(())
 }

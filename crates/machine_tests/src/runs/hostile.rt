@@ -1,0 +1,162 @@
+ghost use Rattle.std.specs.Prelude.{◌<◌};
+
+use super::machines::{self, Part, STACK_TOP, START, image, second};
+use super::tags::loaded;
+use sc_event::{CompId, Event};
+use sc_image::Image;
+use sc_tags::{ByteTag, TagRange};
+use std::alloc::Global;
+use std::test::Fail;
+
+// Words from a seed.
+#[derive(Drop)]
+struct Words {
+    state: u64,
+}
+
+impl Words {
+    fn next(&mut self) -> u32 {
+        self.state = self
+            .state
+            .wrapping_mul(6_364_136_223_846_793_005)
+            .wrapping_add(1_442_695_040_888_963_407);
+        (self.state >> 33) as u32
+    }
+
+    fn of<T: Copy, const N: usize>(&mut self, all: &[T; N]) -> T
+        requires { 0 < N }
+    {
+        all[self.next() as usize % N]
+    }
+
+    // An instruction, of eight times one a word of any kind.
+    fn instruction(&mut self) -> u32 {
+        if self.next() % 8 == 0 {
+            self.next()
+        } else {
+            self.of(&INSTRUCTIONS)
+        }
+    }
+
+    // Some bytes of code or at the top of a stack.
+    fn range(&mut self) -> TagRange {
+        let comps = [CompId::first(), second()];
+        let tags = [
+            ByteTag::Code(self.of(&comps)),
+            ByteTag::Data(self.of(&comps)),
+            ByteTag::Unowned,
+        ];
+        let base = self.of(&[
+            START,
+            START + STRETCH,
+            STACK_TOP - 32,
+            STACK_TOP + STRETCH - 32,
+        ]);
+        TagRange {
+            start: base.wrapping_add(self.next() % 64),
+            bytes: self.next() % 16,
+            tag: self.of(&tags),
+        }
+    }
+}
+
+const STRETCH: u32 = 0x10_0000;
+
+// lui x5 of both codes and of the first data, and calls, returns, loads, stores and jumps there.
+const INSTRUCTIONS: [u32; 20] = [
+    0x010002b7, 0x011002b7, 0x100002b7, 0x000280e7, 0x010280e7, 0x00028067, 0x00008067, 0x00000073,
+    0x00200893, 0x00100893, 0x00700513, 0xfea12e23, 0xffc12503, 0x0002a303, 0x0062a023, 0x0080006f,
+    0xff9ff06f, 0xff010113, 0x00c10113, 0x00a28023,
+];
+
+// `A` and `B`, of 16 words each, which each may call a function of the other, read inputs and output.
+fn hostile(alloc: Global, seed: u64) -> Result<Image, Fail> {
+    let mut words = Words { state: seed };
+    let mut codes = [[0; 16]; 2];
+    for code in codes.iter_mut() {
+        for word in code.iter_mut() {
+            *word = words.instruction();
+        }
+    }
+    let parts: [Part<'_>; 2] = [
+        (
+            b"\x01A\x03\x01\0\x01h\0\x01\x10\0\0\x01\x01\0\x01\0\0",
+            &codes[0],
+            &[],
+        ),
+        (
+            b"\x01B\x03\x01\0\x01g\0\x01\0\0\x10\x01\x01\0\0\0\0",
+            &codes[1],
+            &[],
+        ),
+    ];
+    image(alloc, &parts)
+}
+
+// The tag that the byte has in such an image: the code of each has 64 bytes, and there are no globals.
+fn tag_at(ranges: &[TagRange], at: u32) -> ByteTag {
+    let mut tag = ByteTag::Unowned;
+    for (comp, code) in [(CompId::first(), START), (second(), START + STRETCH)] {
+        if at.wrapping_sub(code) < 64 {
+            tag = ByteTag::Code(comp);
+        }
+        if at.wrapping_sub(code.wrapping_add(0x0f00_0000)) < 0x1_0000 {
+            tag = ByteTag::Data(comp);
+        }
+    }
+    if tag == ByteTag::Unowned {
+        return tag;
+    }
+    for range in ranges {
+        if range.start <= at && at - range.start < range.bytes {
+            tag = range.tag;
+        }
+    }
+    tag
+}
+
+// Without ranges both machines make the same run.
+#[test]
+fn runs_alike_without_ranges(rt: HostRuntime) -> Result<(), Fail> {
+    let mut called = false;
+    for seed in 0..500 {
+        let mut plain = machines::loaded(rt.alloc(), hostile(rt.alloc(), seed)?, &[], 10)?;
+        let mut tagged = loaded(rt.alloc(), hostile(rt.alloc(), seed)?, &[])?;
+        assert_eq!(rt; tagged.run(200), plain.run(200));
+        assert!(rt; tagged.trace() == plain.trace());
+        called = called || matches!(plain.trace().first(), Some(Event::Call { .. }));
+    }
+    assert!(rt; called);
+    Ok(())
+}
+
+// A range does what its two parts do, and the tags are those of a second evaluation.
+#[test]
+fn runs_alike_with_ranges_in_parts(rt: HostRuntime) -> Result<(), Fail> {
+    for seed in 0..500 {
+        let mut words = Words { state: !seed };
+        let (first, last) = (words.range(), words.range());
+        let begin = TagRange {
+            bytes: last.bytes / 2,
+            ..last
+        };
+        let rest = TagRange {
+            start: last.start.wrapping_add(begin.bytes),
+            bytes: last.bytes - begin.bytes,
+            tag: last.tag,
+        };
+        let mut whole = loaded(rt.alloc(), hostile(rt.alloc(), seed)?, &[first, last])?;
+        let mut parts = loaded(
+            rt.alloc(),
+            hostile(rt.alloc(), seed)?,
+            &[first, rest, begin],
+        )?;
+        assert_eq!(rt; whole.run(200), parts.run(200));
+        assert!(rt; whole.trace() == parts.trace());
+        for k in 0..24 {
+            let at = first.start.wrapping_add(k);
+            assert!(rt; whole.tag(at) == tag_at(&[first, last], at));
+        }
+    }
+    Ok(())
+}
