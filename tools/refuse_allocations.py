@@ -15,6 +15,7 @@ import os
 import subprocess
 import sys
 import tempfile
+from concurrent.futures import ThreadPoolExecutor
 
 # The number that the build refuses, and how its bytes stand in the program.
 MARK = 0x5EC0_3B1D
@@ -86,6 +87,7 @@ def runs(program):
     objects = [answer(program, ["object", "--section", name], store)[1] for name in ("Main", "Net")]
     return [(["check"], store), (["meaning"], store), (["meaning"], read("queue.c")), (["compile"], store), (["run"], store),
             (["run"], read("queue.c")), (["explain"], store), (["explain", "--show", "1"], store), (["exec"], image),
+            (["tags", "--data", "16777216,4,1"], image),
             (["object", "--section", "Net"], store), (["link"], b"".join(objects)), (["judge"], order),
             (["make", "--size", "2", "--seed", "1"], b""), (["make", "--size", "2", "--seed", "1", "--summary"], b"")]
 
@@ -105,19 +107,23 @@ def main(words):
 
 def refuse(program, words, text):
     """Refuses each allocation of a run in turn."""
-    with tempfile.TemporaryDirectory() as room:
-        whole = answer(program, words, text)
-        number, quiet, refused = 0, 0, 0
+    whole = answer(program, words, text)
+    number, quiet, refused = 0, 0, 0
+    with tempfile.TemporaryDirectory() as room, ThreadPoolExecutor() as pool:
+        def without(at):
+            refusing(program, at, f"{room}/run{at}")
+            found = answer(f"{room}/run{at}", words, text)
+            os.remove(f"{room}/run{at}")
+            return found
         while quiet < QUIET:
-            number += 1
-            refusing(program, number, f"{room}/run")
-            given = answer(f"{room}/run", words, text)
-            if given == whole:
-                quiet += 1
-            elif given == (OUT_OF_MEMORY, b""):
-                quiet, refused = 0, refused + 1
-            else:
-                raise SystemExit(f"allocation {number}: status {given[0]}, {len(given[1])} bytes written")
+            for found in pool.map(without, range(number + 1, number + 17)):
+                number += 1
+                if found == whole:
+                    quiet += 1
+                elif found == (OUT_OF_MEMORY, b""):
+                    quiet, refused = 0, refused + 1
+                else:
+                    raise SystemExit(f"allocation {number}: status {found[0]}, {len(found[1])} bytes written")
     print(f"status {whole[0]}: {refused} refused allocations, each answered by status {OUT_OF_MEMORY} and no output")
 
 
