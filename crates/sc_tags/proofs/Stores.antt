@@ -2,12 +2,14 @@
 use Rattle.sc_tags.proofs.Common.{Bool, ByteMemory, ImageParts, LoadOp, None, Option, Some, StoreOp, and_parts, ap, arith}
 use Rattle.sc_tags.proofs.Common.{code_byte, code_word, comp_of_code, false, if◌then◌else◌, is_some, leb-true, load_of}
 use Rattle.sc_tags.proofs.Common.{load_of-same, load_size, ltb-true, nat_le, nat_lt, refl, store_size, sym, true}
+use Rattle.sc_tags.proofs.Common.{IsWellFormed}
 use Rattle.sc_tags.proofs.Common.{true≢false, with_bytes, word_at, ℕ, ◌%◌, ◌&&◌, ◌*◌, ◌+◌, ◌-◌, ◌/◌, ◌<◌, ◌∙◌, ◌≡◌}
 use Rattle.rv_code.specs.declared.instr.LoadOp.TheVariants.{Lb, Lbu, Lh, Lhu, Lw}
 use Rattle.rv_code.specs.declared.instr.StoreOp.TheVariants.{Sb, Sh, Sw}
 use Rattle.sc_store.proofs.Words.{address_kept}
 use Rattle.sc_store.specs.Prelude.{HasBytes, byte_of}
-use Rattle.sc_tags.specs.TagHart.{AreWholeWords}
+use Rattle.sc_tags.proofs.Owners.{code_below}
+use Rattle.sc_tags.specs.TagHart.{AreWholeWords, IsBelowData}
 use Rattle.std.specs.Option.{option_map, option_or}
 use Rattle.std.specs.Prelude.{IsSome, IsTrue, ◌^◌, ◌≤◌}
 
@@ -106,6 +108,10 @@ module _ (code data_bytes : ByteMemory) (whole : AreWholeWords code) (a size : �
   put_whole word there b = address_kept code a size word b there ∙ whole b ∙
       sym (address_kept code a size word (b / 4 * 4) there)
 
+pub put_below : (code : ByteMemory) (a size word : ℕ) → IsBelowData code → HasBytes code a size →
+    IsBelowData (with_bytes code a size word)
+put_below code a size word below there b high = address_kept code a size word b there ∙ below b high
+
 mapped : (f : ℕ → ℕ) (x : Option ℕ) → is_some (option_map f x) ≡ is_some x
 mapped f None = refl
 mapped f (Some x) = refl
@@ -116,3 +122,13 @@ code_whole image a =
     let same : a / 4 * 4 / 4 * 4 ≡ a / 4 * 4 = omega arith in
     mapped _ (code_word image a) ∙
     sym (ap (λ word. is_some (word_at image (comp_of_code word) word)) same) ∙ sym (mapped _ (code_word image (a / 4 * 4)))
+
+below_by : (image : ImageParts) → IsWellFormed image → (a : ℕ) → 0x10000000 ≤ a → (word : Option ℕ) →
+    code_word image a ≡ word → is_some (code_byte image a) ≡ false
+below_by image formed a high None at = rw at refl
+below_by image formed a high (Some word) at =
+    let low = code_below image formed _ _ word at in absurd (omega (arith, low, high))
+
+-- no code lies among data
+pub code_below_data : (image : ImageParts) → IsWellFormed image → IsBelowData (code_byte image)
+code_below_data image formed a high = below_by image formed a high _ refl

@@ -12,7 +12,7 @@ use Rattle.sc_machine.specs.declared.hart.Hart.{Hart}
 use Rattle.std.specs.Option.{option_or}
 use Rattle.sc_image.specs.Prelude.{stack_size, zone_size}
 use Rattle.sc_image.specs.declared.parts.CompPart.{CompPart}
-use Rattle.std.specs.Prelude.{length, nat_le, nat_lt, ◌||◌}
+use Rattle.std.specs.Prelude.{length, nat_le, nat_lt, ◌||◌, ◌≤◌}
 use Rattle.std.specs.Prelude.{Bool, Err, List, Ok, Result, false, is_some, nat_eq, ℕ, ◌%◌, ◌+◌, ◌<◌, ◌&&◌, ◌*◌, ◌/◌, ◌≡◌}
 
 -- the state with levels that a hart stands for, with this memory: the calls of its cross stack are the capabilities
@@ -48,6 +48,10 @@ IsApart range address size = (k : ℕ) → k < size → is_in_range range (addre
 -- the addresses with a byte make whole words
 abbrev pub AreWholeWords : ByteMemory → Type 0
 AreWholeWords memory = (address : ℕ) → is_some (memory address) ≡ is_some (memory (address / 4 * 4))
+
+-- none of the addresses with a byte is one of data
+abbrev pub IsBelowData : ByteMemory → Type 0
+IsBelowData memory = (address : ℕ) → 0x10000000 ≤ address → is_some (memory address) ≡ false
 
 -- a hart and a memory that a run of the image can go on from, with room for `events` events in the whole trace
 pub record CanRunTagged (image : ImageParts) (events : ℕ) (hart : Hart) (memory : ByteMemory) : Type 0 where

@@ -4,13 +4,13 @@ ghost use Rattle.sc_base.specs.Prelude.{most_compartments};
 ghost use Rattle.sc_machine.specs.Prelude.{HasBytes, extended, load_of, load_size, store_size, with_bytes, zeros};
 ghost use Rattle.sc_tags.specs.CodeBytes.{HasShortCode, code_regions, with_words};
 ghost use Rattle.sc_tags.specs.Prelude.{code_byte, first_bytes};
-ghost use Rattle.sc_tags.specs.TagHart.{bytes_of};
-ghost use Rattle.std.specs.Prelude.{All, IfOk, length, ◌≡◌, ◌%◌, ◌*◌, ◌+◌, ◌^◌, ◌≤◌};
+ghost use Rattle.sc_tags.specs.TagHart.{IsBelowData, bytes_of};
+ghost use Rattle.std.specs.Prelude.{All, IfOk, IsSome, IsTrue, length, ◌↔◌, ◌≡◌, ◌%◌, ◌*◌, ◌+◌, ◌^◌, ◌≤◌};
 
 use rv_code::{LoadOp, StoreOp};
 use sc_base::OutOfMemory;
 use sc_event::CompId;
-use sc_image::layout::{code_start, comp_id, data_start};
+use sc_image::layout::{DATA, code_start, comp_id, data_start};
 use sc_image::{CompPart, Image};
 use sc_machine::{loaded, put, start_memory};
 use sc_store::{Region, Store};
@@ -26,13 +26,13 @@ pub(crate) struct Memory<S: Store> {
 }
 
 impl<S: Store> Model for Memory<S> {
-    ghost use Rattle.sc_tags.specs.TagHart.{AreWholeWords, Stores};
+    ghost use Rattle.sc_tags.specs.TagHart.{AreWholeWords, IsBelowData, Stores};
 
     ghost Value = { Stores S };
 
     ghost view = { λ memory. record { code_bytes = memory.code_bytes; data_bytes = memory.data_bytes } };
 
-    ghost invariant = { λ memory. AreWholeWords (S.bytes memory.code_bytes) };
+    ghost invariant = { λ memory. AreWholeWords (S.bytes memory.code_bytes) × IsBelowData (S.bytes memory.code_bytes) };
 }
 
 impl<S: Store> Memory<S> {
@@ -60,7 +60,7 @@ impl<S: Store> Memory<S> {
         requires there { HasBytes (bytes_of S.bytes self.now) address (load_size op) }
         ensures { result ≡ extended op (load_of (bytes_of S.bytes self.now) address (load_size op)) }
     {
-        if self.code_bytes.has(address) {
+        if has_code(&self.code_bytes, address) {
             return loaded(&self.code_bytes, op, address);
         }
         loaded(&self.data_bytes, op, address)
@@ -72,16 +72,26 @@ impl<S: Store> Memory<S> {
         requires there { HasBytes (bytes_of S.bytes self.old) address (store_size op) }
         ensures { bytes_of S.bytes self.new ≡ with_bytes (bytes_of S.bytes self.old) address (store_size op) word }
     {
-        if self.code_bytes.has(address) {
+        if has_code(&self.code_bytes, address) {
             return put(&mut self.code_bytes, op, address, word);
         }
         put(&mut self.data_bytes, op, address, word);
     }
 }
 
+/// Whether there is a byte of code at an address. No code lies among data, where most accesses are.
+#[inline(always)]
+fn has_code<S: Store>(code: &S, address: u32) -> bool
+    requires { IsBelowData (S.bytes code.now) }
+    ensures { IsTrue result ↔ IsSome (S.bytes code.now address) }
+{
+    address < DATA && code.has(address)
+}
+
 /// The bytes of all code.
 fn start_code<S: Store>(alloc: Global, image: &Image) -> Result<S, OutOfMemory>
-    ensures { IfOk result (λ code. S.bytes code ≡ code_byte image.now) }
+    ensures bytes { IfOk result (λ code. S.bytes code ≡ code_byte image.now) }
+    ensures below { IfOk result (λ code. IsBelowData (S.bytes code)) }
 {
     let regions = code_regions(alloc, image.parts().comps.as_slice())?;
     let mut code = S::zeroed(alloc, &regions)?;

@@ -2,8 +2,11 @@ ghost use Rattle.std.specs.Prelude.{◌<◌};
 
 use super::machines::{self, Part, STACK_TOP, START, image, second};
 use super::tags::loaded;
+use sc_base::{Stop, TrapReason};
 use sc_event::{CompId, Event};
 use sc_image::Image;
+use sc_machine::Machine;
+use sc_store::FlatStore;
 use sc_tags::{ByteTag, TagRange};
 use std::alloc::Global;
 use std::test::Fail;
@@ -158,5 +161,47 @@ fn runs_alike_with_ranges_in_parts(rt: HostRuntime) -> Result<(), Fail> {
             assert!(rt; whole.tag(at) == tag_at(&[first, last], at));
         }
     }
+    Ok(())
+}
+
+// Runs the machine with regions up to a word of code. Where that word isn't code, the run stops there or at the jump to
+// it: gives both stops, or twice the one that came earlier, and `None` where 200 steps don't suffice.
+fn stops_without(plain: &mut Machine<FlatStore>, word: u32) -> Option<[Stop; 2]> {
+    let reason = TrapReason::BadJump;
+    let mut from = plain.pc();
+    for _ in 0..200 {
+        let pc = plain.pc();
+        if pc == word {
+            return Some([Stop::Trap { reason, pc: from }, Stop::Trap { reason, pc }]);
+        }
+        from = pc;
+        let stop = plain.run(1);
+        if stop != Stop::StepsOut {
+            return Some([stop, stop]);
+        }
+    }
+    None
+}
+
+// A word of code that a range takes away stops the run where the machine with regions comes to it.
+#[test]
+fn stops_at_what_is_not_code(rt: HostRuntime) -> Result<(), Fail> {
+    let mut met = false;
+    for seed in 0..500 {
+        let start = START.wrapping_add(seed as u32 % 16 * 4);
+        let taken = TagRange {
+            start,
+            bytes: 4,
+            tag: ByteTag::Unowned,
+        };
+        let mut plain = machines::loaded(rt.alloc(), hostile(rt.alloc(), seed)?, &[], 10)?;
+        let mut tagged = loaded(rt.alloc(), hostile(rt.alloc(), seed)?, &[taken])?;
+        if let Some(stops) = stops_without(&mut plain, start) {
+            assert!(rt; stops.contains(&tagged.run(200)));
+            assert!(rt; tagged.trace() == plain.trace());
+            met = met || plain.pc() == start;
+        }
+    }
+    assert!(rt; met);
     Ok(())
 }

@@ -1,4 +1,5 @@
 use Rattle.sc_tags.proofs.CodeBytes.{all_short, code_apart, code_below}
+use Rattle.sc_tags.proofs.Stores.{code_below_data}
 use Rattle.sc_tags.proofs.memory.start_code.Goals as goal
 
 pub code_regions-requires-clause-short : goal.code_regions-requires-clause-short
@@ -15,3 +16,6 @@ zeroed-requires-clause-below g c =
     rw (c.deref.ensures.value, c.in_ok-regions.ensures, c.as_slice.ensures, c.parts.ensures.parts)
     (code_below c.args.image.now.comps c.parts.ensures.well_formed.few_comps
     (all_short c.args.image.now c.parts.ensures.well_formed))
+
+pub returns-clause-below : goal.returns-clause-below
+returns-clause-below g c = rw c.put_code.ensures (code_below_data c.args.image.now c.parts.ensures.well_formed)
