@@ -25,18 +25,20 @@ HEIGHT = 250
 
 def measured(program, words, text, stack=PLENTY):
     """The status and the output of a run with that much stack, its seconds, and the most KiB of memory."""
-    files = [file_of(text), file_of(), file_of()]
+    files = [file_of(text), file_of(), file_of(), file_of()]
     child = os.fork()
     if child == 0:
         resource.setrlimit(resource.RLIMIT_STACK, (stack, resource.RLIM_INFINITY))
-        for to, file in enumerate(files):
+        for to, file in enumerate(files[:3]):
             os.dup2(file, to)
-        os.execve(program, [program, *words], {})
-    _, status, used = os.wait4(child, 0)
-    outputs = [os.pread(file, os.fstat(file).st_size, 0) for file in files[1:]]
+        # what a process took before it became the program counts as its memory, so one that is small begins it
+        os.execve("/usr/bin/time", ["time", "-q", "-f", "%U %S %M", "-o", f"/proc/{os.getppid()}/fd/{files[3]}", program, *words], {})
+    status = os.waitstatus_to_exitcode(os.waitpid(child, 0)[1])
+    *outputs, spent = [os.pread(file, os.fstat(file).st_size, 0) for file in files[1:]]
     for file in files:
         os.close(file)
-    return (os.waitstatus_to_exitcode(status), *outputs), used.ru_utime + used.ru_stime, used.ru_maxrss
+    user, system, kilobytes = spent.split()[-3:]
+    return (status, *outputs), float(user) + float(system), int(kilobytes)
 
 
 def main_of(body, before=""):
@@ -157,7 +159,8 @@ def sizes(program, words, size):
 
 def links():
     """A program of 32 compartments that are all replaced, whose main one loops for long before and emits 4,096 events."""
-    text = MAIN + "".join(f"#pragma import C{at} f{at}\nint f{at}(int v);\n" for at in range(1, 32)) + "#pragma import Env output\nvoid output(int v);\n"
+    text = MAIN + "".join(f"#pragma import C{at} f{at}\n" for at in range(1, 32)) + "#pragma import Env output\nvoid output(int v);\n"
+    text += "".join(f"int f{at}(int v);\n" for at in range(1, 32))
     text += "int x[2];\nint y;\nint main(void) {\n  int i;\n  int r;\n  x[2] = 5;\n  for (i = 0; i < 450000; i++) {\n    r = i;\n  }\n  for (i = 0; i < 65; i++) {\n"
     text += "".join(f"    r = f{at}(i);\n" for at in range(1, 32)) + "  }\n  for (i = 0; i < 1000; i++) {\n    output(y);\n  }\n  return 0;\n}\n"
     for at in range(1, 32):
