@@ -1,5 +1,5 @@
-//! Names, events, blocks, zones, sources and sinks, and words and instructions, as one sees them from outside. This
-//! crate has only tests.
+//! Names, events, blocks, zones, pages and stores, sources and sinks, and words and instructions, as one sees them from
+//! outside. This crate has only tests.
 #![tactic(auto)]
 
 #[cfg(test)]
@@ -10,6 +10,8 @@ mod edge;
 mod event;
 #[cfg(test)]
 mod names;
+#[cfg(test)]
+mod pages;
 #[cfg(test)]
 mod policies;
 #[cfg(test)]
