@@ -32,7 +32,8 @@ def measured(program, words, text, stack=PLENTY):
         for to, file in enumerate(files[:3]):
             os.dup2(file, to)
         # what a process took before it became the program counts as its memory, so one that is small begins it
-        os.execve("/usr/bin/time", ["time", "-q", "-f", "%U %S %M", "-o", f"/proc/{os.getppid()}/fd/{files[3]}", program, *words], {})
+        spent = f"/proc/{os.getppid()}/fd/{files[3]}"
+        os.execve("/usr/bin/time", ["time", "-q", "-f", "%U %S %M", "-o", spent, program, *words], {})
     status = os.waitstatus_to_exitcode(os.waitpid(child, 0)[1])
     *outputs, spent = [os.pread(file, os.fstat(file).st_size, 0) for file in files[1:]]
     for file in files:
@@ -46,10 +47,9 @@ def main_of(body, before=""):
     return (MAIN + before + "int main(void) {\n" + body + "  return 0;\n}\n").encode()
 
 
-def expression(shape, before="int x;\nint a[4];\nint *p;\nstruct S { struct S *s; int m; };\nstruct S *t;\n"):
-    """A program with a tree of an expression of this shape: what opens a level, the middle, what closes one."""
-    opening, middle, closing = shape
-    return main_of("  x = " + opening * HEIGHT + middle + closing * HEIGHT + ";\n", before)
+def expression(opening, middle, closing):
+    """A program with a tree of an expression: what opens a level, the middle, what closes one."""
+    return main_of("  x = " + opening * HEIGHT + middle + closing * HEIGHT + ";\n", "int x;\nint a[4];\n")
 
 
 def statement(opening, closing):
@@ -72,26 +72,39 @@ def chain_of_calls(count):
 
 def exporting(count):
     """A program with a compartment of that many exports."""
-    lines = [f"#pragma export f{at}" for at in range(count)] + [f"int f{at}(void) {{\n  return {at};\n}}" for at in range(count)]
-    return (MAIN + "int main(void) {\n  return 0;\n}\n#pragma compartment Many\n" + "\n".join(lines) + "\n").encode()
+    exports = "".join(f"#pragma export f{at}\n" for at in range(count))
+    functions = "".join(f"int f{at}(void) {{\n  return {at};\n}}\n" for at in range(count))
+    return (MAIN + "int main(void) {\n  return 0;\n}\n#pragma compartment Many\n" + exports + functions).encode()
 
 
 def recursion(depth):
     """A program whose function calls itself."""
-    return main_of("  int r;\n  r = f(%d);\n" % depth, "int f(int n) {\n  int r = 0;\n  if (n) {\n    r = f(n - 1);\n  }\n  return r;\n}\n")
+    function = "int f(int n) {\n  int r = 0;\n  if (n) {\n    r = f(n - 1);\n  }\n  return r;\n}\n"
+    return main_of("  int r;\n  r = f(%d);\n" % depth, function)
 
 
+STRUCTS = "int x;\nstruct S { struct S *s; int m; };\nstruct S *t;\n"
 DEEP = {
-    "complements": expression(("~", "1", "")), "negations": expression(("- ", "1", "")), "nots": expression(("!", "1", "")),
-    "sums to the left": main_of("  x = 1" + " + 1" * HEIGHT + ";\n", "int x;\n"), "sums to the right": expression(("1 + (", "1", ")")),
-    "products": expression(("1 * (", "1", ")")), "comparisons": expression(("1 < (", "1", ")")),
-    "conjunctions": expression(("1 && (", "1", ")")), "disjunctions": expression(("0 || (", "1", ")")),
-    "indices": expression(("a[", "1", "]")), "places": main_of("  x = " + "*&" * 120 + "x;\n", "int x;\n"),
-    "arrows": main_of("  x = t" + "->s" * HEIGHT + "->m;\n", "int x;\nstruct S { struct S *s; int m; };\nstruct S *t;\n"),
+    "complements": expression("~", "1", ""),
+    "negations": expression("- ", "1", ""),
+    "nots": expression("!", "1", ""),
+    "sums to the left": main_of("  x = 1" + " + 1" * HEIGHT + ";\n", "int x;\n"),
+    "sums to the right": expression("1 + (", "1", ")"),
+    "products": expression("1 * (", "1", ")"),
+    "comparisons": expression("1 < (", "1", ")"),
+    "conjunctions": expression("1 && (", "1", ")"),
+    "disjunctions": expression("0 || (", "1", ")"),
+    "indices": expression("a[", "1", "]"),
+    "places": main_of("  x = " + "*&" * 120 + "x;\n", "int x;\n"),
+    "arrows": main_of("  x = t" + "->s" * HEIGHT + "->m;\n", STRUCTS),
     "brackets": main_of("  x = " + "(" * 1022 + "1" + ")" * 1022 + ";\n", "int x;\n"),
-    "blocks of if": statement("if (1) { ", " }"), "else if": main_of("if (x) { } " + "else if (x) { } " * (HEIGHT - 5), "int x;\n"),
-    "while": statement("while (0) { ", " }"), "for": statement("for (x = 0; x < 1; x++) { ", " }"),
-    "calls of compartments": chain_of_calls(32), "exports": exporting(4096), "recursion": recursion(4000),
+    "blocks of if": statement("if (1) { ", " }"),
+    "else if": main_of("if (x) { } " + "else if (x) { } " * (HEIGHT - 5), "int x;\n"),
+    "while": statement("while (0) { ", " }"),
+    "for": statement("for (x = 0; x < 1; x++) { ", " }"),
+    "calls of compartments": chain_of_calls(32),
+    "exports": exporting(4096),
+    "recursion": recursion(4000),
 }
 STACK = [["check"], ["meaning"], ["compile"], ["run"], ["explain"], ["object", "--section", "Main"]]
 
@@ -120,8 +133,8 @@ def stacks(program):
     print("most: %d KiB, %s, %s" % worst)
 
 
-def filled(size, head, line, tail, most=10 ** 9):
-    """A text of about that size, of lines with a number each."""
+def filled(size, head, line, tail, most):
+    """A text of about that size, of at most that many lines with a number each."""
     lines, length = [], len(head) + len(tail)
     for at in range(most):
         each = line.replace("@", str(at))
@@ -132,39 +145,61 @@ def filled(size, head, line, tail, most=10 ** 9):
     return (head + "".join(lines) + tail).encode()
 
 
-def shapes(size):
-    """Texts of about that size, of one form each."""
-    end = "int main(void) {\n  return 0;\n}\n"
-    body = "int x;\nint f(int a, int b, int c, int d, int e, int g, int h, int i) {\n  return a;\n}\nint main(void) {\n  int r;\n"
-    return {
-        "functions": filled(size, MAIN, "int f@(int a) { return a; }\n", end), "prototypes": filled(size, MAIN, "int f@(int a);\n", end),
-        "globals": filled(size, MAIN, "int g@;\n", end), "structs": filled(size, MAIN, "struct S@ { int a; };\n", end),
-        "members": filled(size, MAIN + "struct S {\n", "int m@;\n", "};\n" + end), "locals": filled(size, MAIN + "int main(void) {\n", "int l@;\n", "return 0;\n}\n"),
-        "assignments": filled(size, MAIN + body, "x=1;", "return 0;\n}\n"), "calls": filled(size, MAIN + body, "r=f(1,1,1,1,1,1,1,1);", "return 0;\n}\n"),
-        "ifs": filled(size, MAIN + body, "if(1){}", "return 0;\n}\n"), "deep sums": filled(size, MAIN + body, "x=" + "1+(" * 240 + "1" + ")" * 240 + ";\n", "return 0;\n}\n"),
-        "complements": filled(size, MAIN + body, "x=" + "~" * 240 + "1;\n", "return 0;\n}\n"), "initialisers": filled(size, MAIN + "int a[1048576] = {1", ",1", "};\n" + end, 1048575),
-        "long names": filled(size, MAIN, "int " + "n" * 50 + "@;\n", end), "brackets": filled(size, MAIN + body, "x=" + "(" * 1000 + "1" + ")" * 1000 + ";\n", "return 0;\n}\n"),
-        "comments": filled(size, MAIN, "/**/", end), "spaces": filled(size, MAIN, " ", end), "an unfinished text": filled(size, MAIN + body, "x=1;", ""),
-        "marks": filled(size, MAIN + body, "+", ""), "openings": filled(size, MAIN + body, "{", ""),
-    }
+END = "int main(void) {\n  return 0;\n}\n"
+BODY = """int x;
+int f(int a, int b, int c, int d, int e, int g, int h, int i) {
+  return a;
+}
+int main(void) {
+  int r;
+"""
+# What a text begins with, its lines, and how it ends.
+SHAPES = {
+    "functions": ("", "int f@(int a) { return a; }\n", END),
+    "prototypes": ("", "int f@(int a);\n", END),
+    "globals": ("", "int g@;\n", END),
+    "structs": ("", "struct S@ { int a; };\n", END),
+    "members": ("struct S {\n", "int m@;\n", "};\n" + END),
+    "locals": ("int main(void) {\n", "int l@;\n", "return 0;\n}\n"),
+    "assignments": (BODY, "x=1;", "return 0;\n}\n"),
+    "calls": (BODY, "r=f(1,1,1,1,1,1,1,1);", "return 0;\n}\n"),
+    "ifs": (BODY, "if(1){}", "return 0;\n}\n"),
+    "deep sums": (BODY, "x=" + "1+(" * 240 + "1" + ")" * 240 + ";\n", "return 0;\n}\n"),
+    "complements": (BODY, "x=" + "~" * 240 + "1;\n", "return 0;\n}\n"),
+    "initialisers": ("int a[1048576] = {1", ",1", "};\n" + END),
+    "long names": ("", "int " + "n" * 50 + "@;\n", END),
+    "brackets": (BODY, "x=" + "(" * 1000 + "1" + ")" * 1000 + ";\n", "return 0;\n}\n"),
+    "comments": ("", "/**/", END),
+    "spaces": ("", " ", END),
+    "an unfinished text": (BODY, "x=1;", ""),
+    "marks": (BODY, "+", ""),
+    "openings": (BODY, "{", ""),
+}
+MOST_LINES = {"initialisers": 1048575}
 
 
 def sizes(program, words, size):
     """What a command takes on texts of each form."""
     print("%s, %d bytes        s  MiB  bytes a byte" % (words[0], size))
-    for name, text in shapes(size).items():
+    for name, (head, line, tail) in SHAPES.items():
+        text = filled(size, MAIN + head, line, tail, MOST_LINES.get(name, size))
         (status, _, err), seconds, kilobytes = measured(program, words, text)
-        print("%-20s %8.2f %6d %6.1f  status %d %s" % (name, seconds, kilobytes >> 10, 1024 * kilobytes / len(text), status, err.decode().strip()[:60]))
+        print("%-20s %8.2f %6d %6.1f  status %d %s" % (
+            name, seconds, kilobytes >> 10, 1024 * kilobytes / len(text), status, err.decode().strip()[:60]))
 
 
 def links():
     """A program of 32 compartments that are all replaced, whose main one loops for long before and emits 4,096 events."""
-    text = MAIN + "".join(f"#pragma import C{at} f{at}\n" for at in range(1, 32)) + "#pragma import Env output\nvoid output(int v);\n"
-    text += "".join(f"int f{at}(int v);\n" for at in range(1, 32))
-    text += "int x[2];\nint y;\nint main(void) {\n  int i;\n  int r;\n  x[2] = 5;\n  for (i = 0; i < 450000; i++) {\n    r = i;\n  }\n  for (i = 0; i < 65; i++) {\n"
-    text += "".join(f"    r = f{at}(i);\n" for at in range(1, 32)) + "  }\n  for (i = 0; i < 1000; i++) {\n    output(y);\n  }\n  return 0;\n}\n"
-    for at in range(1, 32):
-        text += f"#pragma compartment C{at}\n#pragma export f{at}\nint x[2];\nint y;\nint f{at}(int v) {{\n  x[2] = v;\n  return y;\n}}\n"
+    others = range(1, 32)
+    text = MAIN + "".join(f"#pragma import C{at} f{at}\n" for at in others) + "#pragma import Env output\n"
+    text += "void output(int v);\n" + "".join(f"int f{at}(int v);\n" for at in others)
+    text += "int x[2];\nint y;\nint main(void) {\n  int i;\n  int r;\n  x[2] = 5;\n"
+    text += "  for (i = 0; i < 450000; i++) {\n    r = i;\n  }\n  for (i = 0; i < 65; i++) {\n"
+    text += "".join(f"    r = f{at}(i);\n" for at in others)
+    text += "  }\n  for (i = 0; i < 1000; i++) {\n    output(y);\n  }\n  return 0;\n}\n"
+    for at in others:
+        text += f"#pragma compartment C{at}\n#pragma export f{at}\nint x[2];\nint y;\n"
+        text += f"int f{at}(int v) {{\n  x[2] = v;\n  return y;\n}}\n"
     return text.encode()
 
 
@@ -183,15 +218,17 @@ def others(program):
     """What the other commands take on their worst inputs."""
     text = links()
     steps = ["--steps", "16777216", "--events", "4096"]
-    cases = [("explain", ["explain", *steps], text), ("explain --show", ["explain", "--show", "32", *steps], text), ("run", ["run", *steps], text),
-             ("judge", ["judge", *steps], b"policy P\nstate s\n" + b"on s out * > 2147483646 deny\n" * 4096 + b"policy end\n" + text),
+    policy = b"policy P\nstate s\n" + b"on s out * > 2147483646 deny\n" * 4096 + b"policy end\n"
+    cases = [("explain", ["explain", *steps], text), ("explain --show", ["explain", "--show", "32", *steps], text),
+             ("run", ["run", *steps], text), ("judge", ["judge", *steps], policy + text),
              ("exec, 46 MiB", ["exec", *steps], full_image())]
     print("                          s     MiB")
     for name, words, data in cases:
         (status, out, err), seconds, kilobytes = measured(program, words, data)
         lines = out.decode().splitlines()
         chain = next((line for line in lines if line.startswith("chain")), "")
-        print("%-20s %8.2f %7d  status %d, %d bytes of input, %s %s" % (name, seconds, kilobytes >> 10, status, len(data), chain, err.decode().strip()))
+        print("%-20s %8.2f %7d  status %d, %d bytes of input, %s %s" % (
+            name, seconds, kilobytes >> 10, status, len(data), chain, err.decode().strip()))
 
 
 def main():
