@@ -26,9 +26,15 @@ from readers import bad_policy_line, form_of, image_cause, link_answer
 from seeds import TOP
 
 KINDS = ["texts", "images", "objects", "policies"]
-TOKEN = re.compile(rb"//[^\n]*|/\*.*?\*/|[A-Za-z_]\w*|0[xX][0-9a-fA-F]+u?|\d+u?|<<=|>>=|->|\+\+|--|&&|\|\||[-+*/%&|^<>=!]=|<<|>>|#pragma[^\n]*|\s+|.", re.S)
-COMMANDS = [["check"], ["meaning", "--turns", "5000"], ["compile"], ["run", "--steps", "20000"], ["object", "--section", "Main"],
-            ["explain", "--steps", "20000", "--events", "64"]]
+TOKEN = re.compile(rb"//[^\n]*|/\*.*?\*/|[A-Za-z_]\w*|0[xX][0-9a-fA-F]+u?|\d+u?|<<=|>>=|->|\+\+|--|&&|\|\||"
+                   rb"[-+*/%&|^<>=!]=|<<|>>|#pragma[^\n]*|\s+|.", re.S)
+COMMANDS = [["check"], ["meaning", "--turns", "5000"], ["compile"], ["run", "--steps", "20000"],
+            ["object", "--section", "Main"], ["explain", "--steps", "20000", "--events", "64"]]
+# Names that a text keeps where others are made long.
+KEPT = set(b"""int unsigned void if else while for return struct sizeof break continue main input output malloc free pragma
+import export compartment do x u""".split())
+NUMBERS = [0, 1, 2 ** 32 - 1, 2 ** 31, 1048576, 1048577, 458752, 458753, 4096]
+WORDS = [b"", b"*", b"deny", b"to", b"arg", b"9", b"<", b"2147483648", b"-1"]
 Run = collections.namedtuple("Run", "status out err seconds kilobytes")
 
 
@@ -61,7 +67,8 @@ class Broken:
 
     def __init__(self, program, seconds, memory):
         self.program, self.seconds, self.memory = program, seconds, memory
-        self.texts = [open(path, "rb").read() for path in sorted(glob.glob(TOP + "/examples/*.c") + glob.glob(TOP + "/examples/*/*.c"))]
+        examples = glob.glob(TOP + "/examples/*.c") + glob.glob(TOP + "/examples/*/*.c")
+        self.texts = [open(path, "rb").read() for path in sorted(examples)]
         self.texts += [Maker(seed).text().encode() for seed in range(1, 41)]
         self.images = [made.out for made in (self.run(["compile"], text) for text in self.texts) if made.status == 0]
         self.objects = [data for data in (self.objects_of(text) for text in self.texts) if data]
@@ -80,8 +87,8 @@ class Broken:
 
     def text(self, draw):
         """A text that is broken, and the words of a command."""
-        text = draw.choice([self.broken_tokens, self.broken_tokens, self.broken_sections, self.high_tree, self.long_names])(draw)
-        return draw.choice(COMMANDS), text[:1048600]
+        ways = [self.broken_tokens, self.broken_tokens, self.broken_sections, self.high_tree, self.long_names]
+        return draw.choice(COMMANDS), draw.choice(ways)(draw)[:1048600]
 
     def broken_tokens(self, draw):
         """A text with a few tokens doubled, dropped, swapped, or from another text."""
@@ -124,23 +131,25 @@ class Broken:
     def high_tree(self, draw):
         """A text with a tree or brackets about as high as they may be."""
         height = draw.choice([254, 255, 256, 257, 1022, 1023, 1024, 1025, 5000])
-        one, two = draw.choice([(b"~", b""), (b"(", b")"), (b"1+(", b")"), (b"-", b""), (b"a[", b"]"), (b"*&", b""), (b"!", b""),
-                                (b"f(", b")"), (b"s.s", b".s"), (b"1-", b""), (b"(1)&&", b"")])
-        shape = draw.choice([b"return %s;", b"if (%s) { }", b"output(%s);", b"a[%s] = 1;", b"while (0) { a[0] = %s; }"])
+        one, two = draw.choice([(b"~", b""), (b"(", b")"), (b"1+(", b")"), (b"-", b""), (b"a[", b"]"), (b"*&", b""),
+                                (b"!", b""), (b"f(", b")"), (b"s.s", b".s"), (b"1-", b""), (b"(1)&&", b"")])
+        shape = draw.choice([b"return %s;", b"if (%s) { }", b"output(%s);", b"a[%s] = 1;",
+                             b"while (0) { a[0] = %s; }"])
         nested = shape % (one * height + b"1" + two * height)
         if draw.random() < 0.3:
-            nested = draw.choice([b"if (1) ", b"while (0) ", b"{ ", b"for (;0;) "]) * height + b"; " + b"} " * height * draw.randrange(2)
-        return b"#pragma compartment Main\n#pragma import Env output\nvoid output(int v);\nint main(void) {\n  int a[4];\n  %s\n  return 0;\n}\n" % nested
+            opening = draw.choice([b"if (1) ", b"while (0) ", b"{ ", b"for (;0;) "])
+            nested = opening * height + b"; " + b"} " * height * draw.randrange(2)
+        return (b"#pragma compartment Main\n#pragma import Env output\nvoid output(int v);\n"
+                b"int main(void) {\n  int a[4];\n  %s\n  return 0;\n}\n" % nested)
 
     def long_names(self, draw):
         """A text whose names have 63 bytes, or one more, and differ in the last."""
         text, length = draw.choice(self.texts), draw.choice([62, 62, 62, 63])
-        names = sorted(set(re.findall(rb"\b[a-z]\w*\b", re.sub(rb"#pragma (compartment|import Env)[^\n]*", b"", text))))
-        keep = {b"int", b"unsigned", b"void", b"if", b"else", b"while", b"for", b"return", b"struct", b"sizeof", b"break", b"continue",
-                b"main", b"input", b"output", b"malloc", b"free", b"pragma", b"import", b"export", b"compartment", b"do", b"x", b"u"}
-        names = [name for name in names if name not in keep][:26]
+        code = re.sub(rb"#pragma (compartment|import Env)[^\n]*", b"", text)
+        names = [name for name in sorted(set(re.findall(rb"\b[a-z]\w*\b", code))) if name not in KEPT][:26]
         for at, name in enumerate(names):
-            text = re.sub(rb"\b%s\b" % name, b"n" * length + bytes([97 + at - (draw.random() < 0.02 and at > 0)]), text)
+            last = 97 + at - (draw.random() < 0.02 and at > 0)
+            text = re.sub(rb"\b%s\b" % name, b"n" * length + bytes([last]), text)
         return text
 
     def broken_bytes(self, draw, files):
@@ -162,17 +171,19 @@ class Broken:
                 start = draw.randrange(len(other))
                 data[at:] = other[start:]
             elif change == 5:
-                data[at:at + 4] = draw.choice([0, 1, 2 ** 32 - 1, 2 ** 31, 1048576, 1048577, 458752, 458753, 4096]).to_bytes(4, "little")
+                data[at:at + 4] = draw.choice(NUMBERS).to_bytes(4, "little")
             else:
                 data += bytes(draw.randrange(256) for _ in range(draw.randrange(1, 5)))
         return bytes(data)
 
     def image(self, draw):
         """An image that is broken, for one of the two machines, the one with tags with or without a range."""
-        start = draw.choice([0x01000000, 0x01100000, 0x10000000, 0x10004000, draw.randrange(2 ** 32)]) + draw.choice([0, 1, 4, 8])
-        size = min(draw.choice([0, 1, 4, 64]), 2 ** 32 - start % 2 ** 32)
-        ranged = ["tags", "--data", "%d,%d,%d" % (start % 2 ** 32, size, draw.randrange(4))]
-        return draw.choice([["exec"], ["tags"], ranged]) + ["--steps", "20000", "--events", "64"], self.broken_bytes(draw, self.images)
+        start = draw.choice([0x01000000, 0x01100000, 0x10000000, 0x10004000, draw.randrange(2 ** 32)])
+        start = (start + draw.choice([0, 1, 4, 8])) % 2 ** 32
+        size = min(draw.choice([0, 1, 4, 64]), 2 ** 32 - start)
+        ranged = ["tags", "--data", "%d,%d,%d" % (start, size, draw.randrange(4))]
+        words = draw.choice([["exec"], ["tags"], ranged]) + ["--steps", "20000", "--events", "64"]
+        return words, self.broken_bytes(draw, self.images)
 
     def joined(self, draw):
         """Objects that are broken."""
@@ -194,13 +205,14 @@ class Broken:
         elif change == 1:
             del lines[at]
         elif change == 2:
-            parts.insert(draw.randrange(len(parts) + 1), draw.choice([b"", b"*", b"deny", b"to", b"arg", b"9", b"<", b"2147483648", b"-1"]))
+            parts.insert(draw.randrange(len(parts) + 1), draw.choice(WORDS))
         elif change == 3:
             del parts[draw.randrange(len(parts))]
         elif change == 4:
             parts[draw.randrange(len(parts))] = draw.choice(draw.choice(lines[:last + 1]).split(b" "))
         else:
-            lines[at], lines[draw.randrange(last + 1)] = lines[draw.randrange(last + 1)], lines[at]
+            other = draw.randrange(last + 1)
+            lines[at], lines[other] = lines[other], lines[at]
         if 2 <= change <= 4:
             lines[at] = b" ".join(parts)
         return words, b"\n".join(lines)
@@ -215,7 +227,8 @@ class Broken:
         if kind == "images":
             cause = image_cause(data)
             wanted = (0, b"") if cause is None else (6, b"secomp: bad image %d\n" % cause)
-            if words[0] == "tags" and "--data" not in words and ran[:3] != self.run(["exec", *words[1:]], data)[:3]:
+            without = words[0] == "tags" and "--data" not in words
+            if without and ran[:3] != self.run(["exec", *words[1:]], data)[:3]:
                 return "the machine with regions does something else"
         elif kind == "objects":
             status, error = link_answer(data)
