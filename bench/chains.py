@@ -45,7 +45,8 @@ class Case:
 
     def lines(self, text, *words):
         """What a command writes for a text."""
-        run = subprocess.run([self.program, *words, *self.inputs], input=text.encode(), capture_output=True, check=False)
+        command = [self.program, *words, *self.inputs]
+        run = subprocess.run(command, input=text.encode(), capture_output=True, check=False)
         return run.stdout.decode().splitlines() if run.returncode == 0 else [run.stderr.decode().strip()]
 
     def meaning(self, text):

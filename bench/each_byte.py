@@ -1,7 +1,9 @@
 #!/usr/bin/env python3
-"""Every prefix of three images, two objects and a policy, and each with each other value at each byte, against second readers.
+"""Every prefix of three images, two objects and a policy, and each with each other value at each byte, against second
+readers.
 
-`secomp` has to answer as the readers of `readers.py` say: with status 6, 11, 12 or 14 and its number, or with none of these.
+`secomp` has to answer as the readers of `readers.py` say: with status 6, 11, 12 or 14 and its number, or with none of
+these.
 
 usage: bench/each_byte.py [--secomp PROGRAM]
 """
@@ -17,8 +19,10 @@ from seeds import TOP
 
 RUN = ["--steps", "200", "--events", "8"]
 ONE = b"#pragma compartment Main\nint main(void) {\n  return 0;\n}\n"
-HEAP = b"#pragma compartment Main\nint g = 7;\nint main(void) {\n  int *p;\n  p = malloc(sizeof(int));\n  free(p);\n  return g;\n}\n"
-TWO = (b"#pragma compartment Main\n#pragma import Net get\nint get(int a);\nint main(void) {\n  int x;\n  x = get(1);\n  return x;\n}\n"
+HEAP = (b"#pragma compartment Main\nint g = 7;\n"
+        b"int main(void) {\n  int *p;\n  p = malloc(sizeof(int));\n  free(p);\n  return g;\n}\n")
+TWO = (b"#pragma compartment Main\n#pragma import Net get\nint get(int a);\n"
+       b"int main(void) {\n  int x;\n  x = get(1);\n  return x;\n}\n"
        b"#pragma compartment Net\n#pragma export get\nint get(int a) {\n  return a;\n}\n")
 
 

@@ -1,8 +1,8 @@
 #!/usr/bin/env python3
 """Checks that constant subexpressions cost nothing, on texts from seeds.
 
-Each text has them in all places of expressions: in outputs, operands, conditions, indexes, arguments and results. Its twin has
-for each the number that it comes to, as this tool computes it. For each text
+Each text has them in all places of expressions: in outputs, operands, conditions, indexes, arguments and results. Its
+twin has for each the number that it comes to, as this tool computes it. For each text
 
 - `meaning` isn't blamed and gives the twin's events, and `run` gives the same;
 - `compile` writes the twin's image, byte for byte: so each operator on constants is gone from the code.
@@ -20,7 +20,8 @@ from seeds import arguments, keep
 
 WORDS = 1 << 32
 LEAST, MOST = -(1 << 31), (1 << 31) - 1
-NUMBERS = "0 1 2 3 5 7 8 15 31 64 100 255 1000 32767 65536 2147483647 0x7f 017 0u 1u 3u 31u 2147483648u 0xffffffff".split()
+NUMBERS = """0 1 2 3 5 7 8 15 31 64 100 255 1000 32767 65536 2147483647 0x7f 017 0u 1u 3u 31u 2147483648u
+0xffffffff""".split()
 OPERATORS = "+ - * / % << >> & | ^ == != < > <= >=".split()
 COMPARED = {"==": lambda a, b: a == b, "!=": lambda a, b: a != b, "<": lambda a, b: a < b, ">": lambda a, b: a > b,
             "<=": lambda a, b: a <= b, ">=": lambda a, b: a >= b}

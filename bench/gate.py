@@ -1,10 +1,11 @@
 #!/usr/bin/env python3
-"""Runs the gate in a clone, all of it from nothing, and prints the processor minutes of each crate, split into its proof, its
-tests and its edits, the sums, and the longest chain of crates that prove one after another.
+"""Runs the gate in a clone, all of it from nothing, and prints the processor minutes of each crate, split into its
+proof, its tests and its edits, the sums, and the longest chain of crates that prove one after another.
 
 It looks at the processes of the run three times a second, so that what lasts less is missed; times are those of the
-processors, so other work beside it changes them a little. It takes as long as the gate does. The gate's last line is printed last.
-A clone that it made, several GB when the gate has run in it, is removed at the end; the gate's output stays beside it.
+processors, so other work beside it changes them a little. It takes as long as the gate does. The gate's last line is
+printed last. A clone that it made, several GB when the gate has run in it, is removed at the end; the gate's output
+stays beside it.
 
 usage: bench/gate.py [FOLDER]     FOLDER: a clone that is there, in place of a new one
 """

@@ -1,14 +1,16 @@
 #!/usr/bin/env python3
 """Runs `secomp` on inputs that were broken on purpose, made from seeds, and holds every answer to what it may be.
 
-Texts (tokens doubled, dropped, swapped and from another text; sections cut, doubled, joined and swapped; trees and brackets at
-their limits; names of 63 bytes that differ in the last), images, objects and policies (bytes changed, cut, doubled, moved and
-from another file; numbers at their limits; words and lines of policies). An answer is one of the stated statuses, whose words
-have its form, with nothing written but by status 0, whose output has the command's form. Of images, objects and policies
-a second reader (`readers.py`) says which answer it has to be. No run takes longer than `--seconds` of processor time or more
-memory than `--memory` MiB. At the end stand the slowest and the largest run of each kind.
+Texts (tokens doubled, dropped, swapped and from another text; sections cut, doubled, joined and swapped; trees and
+brackets at their limits; names of 63 bytes that differ in the last), images, objects and policies (bytes changed,
+cut, doubled, moved and from another file; numbers at their limits; words and lines of policies). An answer is one of
+the stated statuses, whose words have its form, with nothing written but by status 0, whose output has the command's
+form. Of images, objects and policies a second reader (`readers.py`) says which answer it has to be. No run takes
+longer than `--seconds` of processor time or more memory than `--memory` MiB. At the end stand the slowest and the
+largest run of each kind.
 
-usage: bench/hostile.py [--count N] [--seed S] [--kinds KIND,..] [--secomp PROGRAM] [--keep DIR] [--seconds T] [--memory M]
+usage: bench/hostile.py [--count N] [--seed S] [--kinds KIND,..] [--secomp PROGRAM] [--keep DIR] [--seconds T]
+       [--memory M]
 """
 import argparse
 import collections
@@ -31,8 +33,8 @@ TOKEN = re.compile(rb"//[^\n]*|/\*.*?\*/|[A-Za-z_]\w*|0[xX][0-9a-fA-F]+u?|\d+u?|
 COMMANDS = [["check"], ["meaning", "--turns", "5000"], ["compile"], ["run", "--steps", "20000"],
             ["object", "--section", "Main"], ["explain", "--steps", "20000", "--events", "64"]]
 # Names that a text keeps where others are made long.
-KEPT = set(b"""int unsigned void if else while for return struct sizeof break continue main input output malloc free pragma
-import export compartment do x u""".split())
+KEPT = set(b"""int unsigned void if else while for return struct sizeof break continue main input output malloc free
+pragma import export compartment do x u""".split())
 NUMBERS = [0, 1, 2 ** 32 - 1, 2 ** 31, 1048576, 1048577, 458752, 458753, 4096]
 WORDS = [b"", b"*", b"deny", b"to", b"arg", b"9", b"<", b"2147483648", b"-1"]
 Run = collections.namedtuple("Run", "status out err seconds kilobytes")
@@ -285,12 +287,14 @@ def main():
         for kind in words.kinds.split(","):
             size = max(1, words.count // (os.cpu_count() * 4))
             starts = range(0, words.count, size)
-            parts = list(pool.map(part_of, *zip(*[(kind, words.seed + at, min(size, words.count - at)) for at in starts])))
+            tasks = [(kind, words.seed + at, min(size, words.count - at)) for at in starts]
+            parts = list(pool.map(part_of, *zip(*tasks)))
             statuses = sum((part[0] for part in parts), collections.Counter())
             slowest, largest = max(part[1] for part in parts), max(part[2] for part in parts)
             wrong = [each for part in parts for each in part[3]]
+            counts = " ".join("%d: %d" % each for each in sorted(statuses.items()))
             print("%s: %d runs, statuses %s; slowest %.2f s (%d), largest %d KiB (%d); %d wrong" % (
-                kind, words.count, " ".join("%d: %d" % each for each in sorted(statuses.items())), *slowest, *largest, len(wrong)))
+                kind, words.count, counts, *slowest, *largest, len(wrong)))
             for seed, command, problem in wrong[:20]:
                 print("  %s %d, %s: %s" % (kind, seed, command, problem))
             failed += len(wrong)

@@ -57,7 +57,8 @@ def seconds(program, command, text):
 
 
 def main(words):
-    program = words[0] if words else os.path.join(os.path.dirname(os.path.dirname(os.path.realpath(__file__))), "secomp")
+    top = os.path.dirname(os.path.dirname(os.path.realpath(__file__)))
+    program = words[0] if words else os.path.join(top, "secomp")
     plain = seconds(program, "explain", TEXT)
     for name, rules in (("rules of 256 states", moving()), ("rules of one state", staying())):
         print(f"{name}: {1000 * (seconds(program, 'judge', rules + TEXT) - plain):.0f} ms beyond {1000 * plain:.0f} ms")

@@ -464,7 +464,8 @@ class Body(Expressions):
         h, i, size = self.local("h8", "int *"), self.local("i9", "int "), 1 + self.draw.below(9)
         array = Var(h, "int", size)
         self.cost += size * self.times
-        forms = ["{0} * sizeof(int)", "({0} + 0u) * sizeof(signed)", "1 * {0} * sizeof(int)", "(9 - (9 - {0})) * sizeof(int)"]
+        forms = ["{0} * sizeof(int)", "({0} + 0u) * sizeof(signed)", "1 * {0} * sizeof(int)",
+                 "(9 - (9 - {0})) * sizeof(int)"]
         form = "sizeof(int)" if size == 1 else self.draw.pick(forms)
         self.add("%s = malloc(%s);" % (h, form.format(size)))
         if not self.draw.chance(self.flaw / 4):

@@ -1,13 +1,14 @@
-"""Second readers of images, objects and policies, after docs/MACHINE.md and docs/EXPLAIN.md, and of what `secomp` writes.
+"""Second readers of images, objects and policies, after docs/MACHINE.md and docs/EXPLAIN.md, and of what `secomp`
+writes.
 
 They share no code with the program, and say which of its answers bytes have to get.
 """
 import re
 
 NAME = re.compile(rb"[A-Za-z_][A-Za-z0-9_]{0,62}")
-KEYWORDS = """auto break case char const continue default do double else enum extern float for goto if inline int long register
-restrict return short signed sizeof static struct switch typedef union unsigned void volatile while _Alignas _Alignof _Atomic _Bool
-_Complex _Generic _Imaginary _Noreturn _Static_assert _Thread_local""".split()
+KEYWORDS = """auto break case char const continue default do double else enum extern float for goto if inline int long
+register restrict return short signed sizeof static struct switch typedef union unsigned void volatile while _Alignas
+_Alignof _Atomic _Bool _Complex _Generic _Imaginary _Noreturn _Static_assert _Thread_local""".split()
 MOST_CODE, MOST_GLOBALS, MOST_EXPORTS, MOST_COMPARTMENTS = 1048576, 458752, 4096, 32
 
 
@@ -74,7 +75,8 @@ def differ(things):
 
 def imports_fit(comps):
     """Imports are distinct, of another compartment, and below the number of its exports."""
-    return all(differ(comp["imports"]) and all(to != at and index < len(comps[to]["exports"]) for to, index in comp["imports"])
+    return all(differ(comp["imports"])
+               and all(to != at and index < len(comps[to]["exports"]) for to, index in comp["imports"])
                for at, comp in enumerate(comps))
 
 
@@ -206,7 +208,8 @@ def is_pattern(words):
 def is_rule(line, states):
     """A line is a rule over these states."""
     found = RULE.fullmatch(line)
-    return bool(found and found["state"] in states and found["next"] in states | {None} and is_pattern(found["pattern"]))
+    return bool(found and found["state"] in states and found["next"] in states | {None}
+                and is_pattern(found["pattern"]))
 
 
 def bad_policy_line(data):
@@ -249,7 +252,8 @@ VERDICT = f"verdict (holds {IDENTIFIER}|violated after [0-9]+ by {IDENTIFIER} ru
 RUN = f"(({EVENT})\n)*{STOP}\n"
 REPORTS = {"run": RUN, "exec": RUN, "tags": RUN, "meaning": RUN, "explain": RUN + CHAIN + "\n",
            "judge": RUN + CHAIN + "\n" + VERDICT + "\n",
-           "check": f"((compartment {IDENTIFIER}|export {IDENTIFIER} [a-z]+( [a-z]+)*|import {IDENTIFIER} {IDENTIFIER} [a-z]+"
+           "check": f"((compartment {IDENTIFIER}|export {IDENTIFIER} [a-z]+( [a-z]+)*"
+                    f"|import {IDENTIFIER} {IDENTIFIER} [a-z]+"
                     f"( [a-z]+)*)\n)*main {IDENTIFIER}\n"}
 REPORTS = {command: re.compile(report) for command, report in REPORTS.items()}
 ERRORS = {status: re.compile(error) for status, error in ERRORS.items()}
@@ -271,6 +275,7 @@ def form_of(command, status, out, err):
         return "an output beside status %d" % status
     if status not in ERRORS:
         return "status %d" % status
-    if not ERRORS[status].match(err.decode("ascii")) or status != 2 and not ERRORS[status].fullmatch(err.decode("ascii").rstrip("\n")):
+    said = err.decode("ascii")
+    if not ERRORS[status].match(said) or status != 2 and not ERRORS[status].fullmatch(said.rstrip("\n")):
         return "an error that isn't of the status's form"
     return None

@@ -1,11 +1,12 @@
 #!/usr/bin/env python3
-"""Counts the instructions of a round of some loops, as `secomp compile` and as `gcc -O0` and `-O1` compile them: those of
-bench/meaning.sh, and one each with a constant expression, copies of variables, and a result that nobody reads.
+"""Counts the instructions of a round of some loops, as `secomp compile` and as `gcc -O0` and `-O1` compile them:
+those of bench/meaning.sh, and one each with a constant expression, copies of variables, and a result that nobody
+reads.
 
 Usage: turns.py PROGRAM [BEFORE]. PROGRAM is a built secomp, BEFORE one whose `compile` leaves the optimiser out. Where
-riscv64-unknown-elf-gcc (package gcc-riscv64-unknown-elf) isn't on the path, its columns are empty. secomp's figure is the
-difference of the steps that the machine takes for 200 and for 100 rounds, by halves; gcc's is the number of instructions from
-the loop's label to its branch, and those of the function that it calls; 0 where no loop is left.
+riscv64-unknown-elf-gcc (package gcc-riscv64-unknown-elf) isn't on the path, its columns are empty. secomp's figure is
+the difference of the steps that the machine takes for 200 and for 100 rounds, by halves; gcc's is the number of
+instructions from the loop's label to its branch, and those of the function that it calls; 0 where no loop is left.
 """
 import re
 import shutil
@@ -80,7 +81,8 @@ def main():
     for name in LOOPS:
         figures = {each: round_of(program, name) for each, program in programs.items()}
         figures.update({"gcc " + level: by_gcc(name, level) for level in ("-O0", "-O1")})
-        columns = [f"  {each} {'-' if figure is None else format(figure, '.1f'):>5}" for each, figure in figures.items()]
+        numbers = ["-" if figure is None else format(figure, ".1f") for figure in figures.values()]
+        columns = [f"  {each} {number:>5}" for each, number in zip(figures, numbers)]
         print(f"{name:9}" + "".join(columns))
 
 

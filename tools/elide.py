@@ -1,12 +1,12 @@
 #!/usr/bin/env python3
-"""Leaves out of a crate's lemmas what follows from the rest: tries `_` in place of long arguments, and no type where one stands
-at a `let` or at the variable of a λ, and keeps what the prover still accepts. Statements stay as they are.
+"""Leaves out of a crate's lemmas what follows from the rest: tries `_` in place of long arguments, and no type where
+one stands at a `let` or at the variable of a λ, and keeps what the prover still accepts. Statements stay as they are.
 
 usage, at the top of the repository: tools/elide.py CRATE [ROUNDS]     ROUNDS: the most checks (60)
 
-It tries all at once and withdraws, check by check, what an error points at, until none is left; a lemma that still fails goes
-back as it was. A check reads all files of proofs/ but the answers and takes seconds to a minute, through tools/lemmas.py, so
-KEPT is used as there. What comes out is to be laid out by `rt fmt`, and proved by `rt ci`.
+It tries all at once and withdraws, check by check, what an error points at, until none is left; a lemma that still
+fails goes back as it was. A check reads all files of proofs/ but the answers and takes seconds to a minute, through
+tools/lemmas.py, so KEPT is used as there. What comes out is to be laid out by `rt fmt`, and proved by `rt ci`.
 """
 import glob
 import os
@@ -18,7 +18,8 @@ import sys
 LEAST = 6  # characters that an edit has to save
 SIGNATURE = re.compile(r"^(\s*)(?:pub )?([^\s(){}\[\];,]+) : ")
 TOKEN = re.compile(r"[^\s(){}\[\];,]+|[(){}\[\];,]|\n")
-KEYWORDS = {"omega", "rw", "simp", "cc", "grind", "search", "first_of", "elim", "let", "in", "as", "record", "where", "hlevel",
+KEYWORDS = {"omega", "rw", "simp", "cc", "grind", "search", "first_of",
+            "elim", "let", "in", "as", "record", "where", "hlevel",
             "assumption", "open", "use", "at"}
 BREAKS = {"=", ";", ",", "∙", "→", "↦", "|", "in", ".", "∷", "++", "≡", "(", "[", "{"}
 FOUND = re.compile(r"^\./proofs/(\w+)\.antt:(\d+):(\d+): (?:error|warning: (?!this pattern))(.*)$", re.M)
@@ -102,7 +103,8 @@ def typed_let(text, at, end):
     for k in range(at + head.end(), end - 1):
         depth += (text[k] in "([{") - (text[k] in ")]}")
         if depth == 0 and text[k] == "=" and text[k - 1] in " \n" and text[k + 1] in " \n":
-            if text[k + 1:].lstrip().startswith(("omega", "rw", "simp", "cc", "grind", "search", "elim", "record", "(")):
+            beginnings = ("omega", "rw", "simp", "cc", "grind", "search", "elim", "record", "(")
+            if text[k + 1:].lstrip().startswith(beginnings):
                 return None
             return at + len("let ") + len(head.group(1)), k, " "
     return None
@@ -202,7 +204,8 @@ def withdraw(files, errors, tries):
             tries[file.path, hit] = tries.get((file.path, hit), 0) + 1
             at = starts[line] + column
             exact = [edit for place, edit in own if place <= at <= place + max(1, len(edit["new"])) - 1]
-            nearest = [edit for _, edit in sorted(((abs(place - at), k), own[k][1]) for k, (place, _) in enumerate(own))[:1]]
+            distances = sorted(((abs(place - at), k), own[k][1]) for k, (place, _) in enumerate(own))
+            nearest = [edit for _, edit in distances[:1]]
             every = [edit for _, edit in own]
             for edit in every if tries[file.path, hit] > 40 else exact or nearest:
                 edit["is_in"] = False

@@ -1,5 +1,6 @@
 #!/usr/bin/env python3
-"""Runs `secomp` with inputs, outputs and errors that fail, and holds each run to its status, with no signal and within a second.
+"""Runs `secomp` with inputs, outputs and errors that fail, and holds each run to its status, with no signal and
+within a second.
 
 usage: tools/ends.py [--secomp PROGRAM]
 """

@@ -3,11 +3,11 @@
 
 Usage, at the top of the repository: tools/lemmas.py CRATE [FUNCTION ..] [-- flags of rattle]
 
-It runs `rattle check --only` over the sources of the crates below, holes allowed, and prints its errors. Where KEPT names
-a checkout in which a run of `rt ci` built crates with the same files, their libraries are taken from there, which is
-faster (a run that was given names builds in a copy, /tmp/rt-copy-*/repo, and only while it lasts). A file of proofs/ is
-read only if an answer leads to it; with no FUNCTION all lemma files of the crate are read, in a copy, for a function
-`probe` that names a rule of each. Nothing is kept as proved: that is for `rt ci`.
+It runs `rattle check --only` over the sources of the crates below, holes allowed, and prints its errors. Where KEPT
+names a checkout in which a run of `rt ci` built crates with the same files, their libraries are taken from there,
+which is faster (a run that was given names builds in a copy, /tmp/rt-copy-*/repo, and only while it lasts). A file of
+proofs/ is read only if an answer leads to it; with no FUNCTION all lemma files of the crate are read, in a copy, for
+a function `probe` that names a rule of each. Nothing is kept as proved: that is for `rt ci`.
 """
 import filecmp
 import glob

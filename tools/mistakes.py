@@ -1,6 +1,6 @@
 #!/usr/bin/env python3
-"""Tests tools/why: `mistakes.py`, at the top of the repository. For each mistake that C programmers make here, the reason
-that it must name first, and at which line. The last line counts them.
+"""Tests tools/why: `mistakes.py`, at the top of the repository. For each mistake that C programmers make here, the
+reason that it must name first, and at which line. The last line counts them.
 """
 import os
 import subprocess
@@ -89,8 +89,10 @@ MISTAKES = [
     (FILE, "int a[];", 2, "has its length"),
     (FILE, "int a[0];", 2, "at least one element"),
     (FILE, "int n; int a[n];", 2, "one integer"),
-    (FILE, "int f(int a) { return a; }\nint g(void) {\n  int x;\n  x = f(1) + 2;\n  return x;\n}", 5, "no part of an expression"),
-    (FILE, "int f(int a) { return a; }\nint g(void) {\n  int x;\n  x = 2 * f(1);\n  return x;\n}", 5, "no part of an expression"),
+    (FILE, "int f(int a) { return a; }\nint g(void) {\n  int x;\n  x = f(1) + 2;\n  return x;\n}", 5,
+     "no part of an expression"),
+    (FILE, "int f(int a) { return a; }\nint g(void) {\n  int x;\n  x = 2 * f(1);\n  return x;\n}", 5,
+     "no part of an expression"),
     (FILE, "int f(int a) { return a; }\nint g(void) {\n  if (f(1)) { }\n  return 0;\n}", 4, "no part of an expression"),
     (MAIN, "  int a, b; a = b = 1;", 3, "one assignment"),
     (MAIN, "  int a, b; a = 1; b = a++;", 3, "++ and --"),

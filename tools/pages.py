@@ -119,7 +119,8 @@ def main():
         print("no page was tested: there is no chromium")
         return 0
     with tempfile.TemporaryDirectory() as folder:
-        return count("\n".join(f"the page of {name}.c: {fault}" for fault in tested(program, folder, name, words, wanted))
+        return count("\n".join(f"the page of {name}.c: {fault}"
+                               for fault in tested(program, folder, name, words, wanted))
                      for name, words, wanted in PAGES)
 
 

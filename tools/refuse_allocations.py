@@ -5,11 +5,12 @@ Usage, at the top of the repository: tools/refuse_allocations.py PROGRAM WORD.. 
        tools/refuse_allocations.py --all PROGRAM
        tools/refuse_allocations.py --build PROGRAM [CRATE]
 
-The second form takes a run of each command in turn. The last one builds PROGRAM first: CRATE, or else secomp, with run-time checks in place of proofs, as `rt try --fail-alloc` builds it, with a
-number of the allocation to refuse that stands nowhere else in the program. The first form puts each number from 1 on in
-its place and runs the program on these words and this input. An answer must be that of the run in which nothing is
-refused, or status 9 with nothing written to the output. It ends after 64 numbers in a row that change nothing, since then
-there are no more allocations, and prints how many were refused.
+The second form takes a run of each command in turn. The last one builds PROGRAM first: CRATE, or else secomp, with
+run-time checks in place of proofs, as `rt try --fail-alloc` builds it, with a number of the allocation to refuse that
+stands nowhere else in the program. The first form puts each number from 1 on in its place and runs the program on
+these words and this input. An answer must be that of the run in which nothing is refused, or status 9 with nothing
+written to the output. It ends after 64 numbers in a row that change nothing, since then there are no more
+allocations, and prints how many were refused.
 """
 import os
 import subprocess
@@ -85,8 +86,9 @@ def runs(program):
     store, order = read("store.c"), read("policies/order.policy") + read("policies/order.c")
     image = answer(program, ["compile"], store)[1]
     objects = [answer(program, ["object", "--section", name], store)[1] for name in ("Main", "Net")]
-    return [(["check"], store), (["meaning"], store), (["meaning"], read("queue.c")), (["compile"], store), (["run"], store),
-            (["run"], read("queue.c")), (["explain"], store), (["explain", "--show", "1"], store), (["exec"], image),
+    return [(["check"], store), (["meaning"], store), (["meaning"], read("queue.c")), (["compile"], store),
+            (["run"], store), (["run"], read("queue.c")), (["explain"], store), (["explain", "--show", "1"], store),
+            (["exec"], image),
             (["tags", "--data", "16777216,4,1"], image),
             (["object", "--section", "Net"], store), (["link"], b"".join(objects)), (["judge"], order),
             (["make", "--size", "2", "--seed", "1"], b""), (["make", "--size", "2", "--seed", "1", "--summary"], b"")]

@@ -1,5 +1,5 @@
-"""What the tools beside `secomp` share: a text's sections, the program, the sessions that a document shows, and how tests
-are counted. Nothing here is part of the proved program."""
+"""What the tools beside `secomp` share: a text's sections, the program, the sessions that a document shows, and how
+tests are counted. Nothing here is part of the proved program."""
 import os
 import re
 import subprocess

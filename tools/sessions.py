@@ -2,9 +2,9 @@
 """Makes the tests of what the documents show: `sessions.py [--check]`, at the top of the repository.
 
 A session is a line `$ ./secomp WORDS < FILE`, or `$ cat POLICY FILE | ./secomp WORDS`, in a block that is indented by
-four spaces, with what the program writes below it. The sessions of each document below are written, with the texts that they read, to
-crates/command_tests/src/examples/sessions.rt, whose tests run them over the program. With --check nothing is written,
-and the status is 1 where that file isn't what the documents and the examples give.
+four spaces, with what the program writes below it. The sessions of each document below are written, with the texts
+that they read, to crates/command_tests/src/examples/sessions.rt, whose tests run them over the program. With --check
+nothing is written, and the status is 1 where that file isn't what the documents and the examples give.
 
 What follows `> NAME` is kept as NAME. It is known from the document too: `tail -n N NAME` shows its last section,
 and all before is as in FILE. What follows `| examples/draw` is drawn here, and compared with the next block

@@ -156,7 +156,8 @@ def document(repository):
     calls = other_calls(repository)
     others = [thing for call in calls.values() for thing in reach.take(call)]
     rows += ["## The other calls", "", f"{counted(others)} beside these, for the contracts of:", ""]
-    rows += [", ".join(f"`{'::'.join(call)}`" for call in calls) + ".", "", *tables(repository, others), "## The kit", ""]
+    rows += [", ".join(f"`{'::'.join(call)}`" for call in calls) + ".", "", *tables(repository, others)]
+    rows += ["## The kit", ""]
     rows += [f"In all {counted(reach.things)}, which stand on these modules and types of the kit:", ""]
     return "\n".join([*rows, *kit_rows(reach.words), ""])
 

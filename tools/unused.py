@@ -1,12 +1,12 @@
 #!/usr/bin/env python3
-"""Lists what nothing leads to: each definition and lemma of specs/ and proofs/ that no contract, answer, edit or document cites,
-nor anything else that they cite.
+"""Lists what nothing leads to: each definition and lemma of specs/ and proofs/ that no contract, answer, edit or
+document cites, nor anything else that they cite.
 
 usage: tools/unused.py [REPO]     prints FILE NAME LINES, and the sum
 
-Answers and invariants of functions count as cited, as do the files of EXAMPLES, which compute what the definitions say,
-and files with a line INSTANCE at their head, which show that premises can be met.
-Names are distinguished by file and import; a name that a contract writes stands for each definition so called in specs/.
+Answers and invariants of functions count as cited, as do the files of EXAMPLES, which compute what the definitions
+say, and files with a line INSTANCE at their head, which show that premises can be met. Names are distinguished by
+file and import; a name that a contract writes stands for each definition so called in specs/.
 """
 import glob
 import os
