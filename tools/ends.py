@@ -6,11 +6,16 @@ usage: tools/ends.py [--secomp PROGRAM]
 """
 import argparse
 import os
+import resource
 import sys
+import tempfile
+import threading
 import time
 
 TOP = os.path.dirname(os.path.dirname(os.path.realpath(__file__)))
 READ_FAULT, WRITE_FAULT, TOO_LONG, REFUSED, DONE = 7, 8, 5, 3, 0
+# The most bytes of a file that the runs may write.
+MOST = 1 << 30
 TEXT = f"{TOP}/examples/seven.c"
 
 
@@ -20,6 +25,27 @@ def pipe_that_ends():
     os.write(writer, open(TEXT, "rb").read()[:40])
     os.close(writer)
     return reader
+
+
+def pipe_by_bytes():
+    """The end of a pipe into which a text is written a byte at a time, so that a read gives one."""
+    reader, writer = os.pipe()
+
+    def write():
+        for byte in open(TEXT, "rb").read():
+            os.write(writer, bytes([byte]))
+            time.sleep(0.0005)
+        os.close(writer)
+    threading.Thread(target=write).start()
+    return reader
+
+
+def file_with_limit():
+    """A file in which there is room for 5 bytes below the limit of a process's files."""
+    file, path = tempfile.mkstemp()
+    os.unlink(path)
+    os.lseek(file, MOST - 5, os.SEEK_SET)
+    return file
 
 
 def pipe_without_reader():
@@ -41,12 +67,14 @@ ENDS = [
     ("input may only be written", 0, opened("/dev/null", os.O_WRONLY), READ_FAULT),
     ("input is closed", 0, opened(None, 0), READ_FAULT),
     ("input is a pipe that ends early", 0, pipe_that_ends, REFUSED),
+    ("input is a pipe that gives a byte at a time", 0, pipe_by_bytes, DONE),
     ("input is empty", 0, opened("/dev/null", os.O_RDONLY), REFUSED),
     ("input doesn't end", 0, opened("/dev/zero", os.O_RDONLY), TOO_LONG),
     ("output is full", 1, opened("/dev/full", os.O_WRONLY), WRITE_FAULT),
     ("output is closed", 1, opened(None, 0), WRITE_FAULT),
     ("output may only be read", 1, opened(TEXT, os.O_RDONLY), WRITE_FAULT),
     ("output is a pipe without a reader", 1, pipe_without_reader, WRITE_FAULT),
+    ("output takes 5 bytes and no more", 1, file_with_limit, WRITE_FAULT),
     ("error is full", 2, opened("/dev/full", os.O_WRONLY), DONE),
     ("error is closed", 2, opened(None, 0), DONE),
     ("error is a pipe without a reader", 2, pipe_without_reader, DONE),
@@ -73,6 +101,8 @@ def main():
     options.add_argument("--secomp", default=f"{TOP}/crates/secomp/out/secomp")
     program = options.parse_args().secomp
     failed = 0
+    # A write beyond the limit fails, since SIGXFSZ is ignored by this process and so by those that it starts.
+    resource.setrlimit(resource.RLIMIT_FSIZE, (MOST, MOST))
     for command in (["meaning"], ["check"], ["run"], ["explain"], ["compile"]):
         for name, descriptor, end, wanted in ENDS:
             status, seconds = run(program, command, descriptor, end)
