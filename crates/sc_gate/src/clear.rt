@@ -1,6 +1,7 @@
 ghost use Rattle.sc_base.specs.Prelude.{most_params};
 ghost use Rattle.sc_image.specs.Prelude.{cleared_for_call, cleared_for_return, is_argument, kept};
-ghost use Rattle.std.specs.Prelude.{◌≡◌, ◌≤◌};
+ghost use Rattle.sc_gate.specs.Clearing.{KeepsNone, cleared_first};
+ghost use Rattle.std.specs.Prelude.{Bool, List, length, ◌≡◌, ◌≤◌, ℕ};
 
 use sc_image::layout::A0;
 
@@ -24,9 +25,19 @@ fn keep(regs: &mut [u32; 32], count: usize)
     requires { count ≤ most_params }
     ensures { regs.new ≡ kept (is_argument count) regs.old }
 {
-    for number in 0..32 {
-        if number < A0 || A0 + count <= number {
-            regs[number] = 0;
-        }
+    clear(regs, 0, A0);
+    clear(regs, A0 + count, 32);
+}
+
+/// Puts 0 into the registers from one number on, up to another.
+#[inline(always)]
+fn clear(regs: &mut [u32; 32], from: usize, to: usize)
+    requires within { to ≤ 32 }
+    requires order { from ≤ to }
+    ensures { (keeps : ℕ → Bool) (all : List ℕ) → length all ≡ 32 → KeepsNone keeps from to →
+        regs.old ≡ cleared_first keeps from all → regs.new ≡ cleared_first keeps to all }
+{
+    for number in from..to {
+        regs[number] = 0;
     }
 }

@@ -3,7 +3,7 @@ use Rattle.sc_machine.proofs.Common.{Bool, CompPart, ImageParts, IsTrue, List, M
 use Rattle.sc_machine.proofs.Common.{[], ap, ap₂, arith, cases_lt, false, false≢true, get_or-map, get_or_past, has_heap}
 use Rattle.sc_machine.proofs.Common.{is_some, length, length-map, map, ne_eqb, refl, slice_get, slice_index_or}
 use Rattle.sc_machine.proofs.Common.{slice_set, subst, suc, sym, true, unwrap_or, zero, zone_start, ℕ, ⊎_elim, ◌*◌, ◌+◌}
-use Rattle.sc_machine.proofs.Common.{◌-◌, ◌<◌, ◌==◌, ◌∙◌, ◌∷◌, ◌≡◌, ◌≢◌, ◌≤◌}
+use Rattle.sc_machine.proofs.Common.{◌<◌, ◌==◌, ◌∙◌, ◌∷◌, ◌≡◌, ◌≢◌, ◌≤◌}
 use Rattle.sc_base.specs.declared.stop.TrapReason.TheVariants.{BadFree}
 use Rattle.sc_image.specs.Prelude.{frees, starts_block, zone_of}
 use Rattle.std.specs.Option.{option_map_or}

@@ -5,7 +5,7 @@ use Rattle.sc_machine.proofs.Common.{jump_outside, cases_lt}
 use Rattle.sc_machine.proofs.Common.{comp_of_code, eq-eqb, eqb-true, entered_export, export_called, exported_by, get_or}
 use Rattle.sc_machine.proofs.Common.{get_or-map, get_or_from_slice_get, length, length-map, map, may_call_export}
 use Rattle.sc_machine.proofs.Common.{export_params}
-use Rattle.sc_machine.proofs.Common.{position, ra, refl, rules, slice_get, slice_get-get_or, slice_get_within, subst}
+use Rattle.sc_machine.proofs.Common.{position, ra, refl, slice_get, slice_get-get_or, slice_get_within, subst}
 use Rattle.sc_machine.proofs.Common.{suc, sym, true, zero, ℕ, ⊎_elim, ◌++◌, ◌+◌, ◌<◌, ◌==◌, ◌∙◌, ◌∷◌, ◌≡◌, ◌≤◌}
 use Rattle.sc_image.specs.declared.parts.ExportPart.{ExportPart}
 use Rattle.sc_image.proofs.Words.{comp_found, in_code, no_export, some_is}

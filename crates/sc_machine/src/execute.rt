@@ -3,7 +3,9 @@
 
 ghost use Rattle.sc_machine.specs.Prelude.{IsBacked, IsReady, LeavesSound, execute, outcome_of, state_in, step};
 ghost use Rattle.sc_machine.specs.Prelude.{word_of};
-ghost use Rattle.std.specs.Prelude.{◌≡◌, ◌+◌, ◌^◌, ◌<◌, false, map, Ok, OnErr};
+ghost use Rattle.rv_code.specs.Prelude.{decoded};
+ghost use Rattle.rv_code.specs.declared.instr.Instr.{Instr};
+ghost use Rattle.std.specs.Prelude.{◌≡◌, ◌+◌, ◌^◌, ◌<◌, false, map, Ok, OnErr, Some};
 
 use crate::environment::environment_call;
 use crate::hart::Hart;
@@ -42,15 +44,64 @@ pub(crate) fn step<S: Store>(
     if execute_quick(here, &mut hart.core, memory, &instr) {
         return Ok(false);
     }
-    // A copy, so that only what isn't quick keeps an instruction in memory.
-    let other = instr;
-    match execute(here, inputs, hart, memory, &other) {
+    match execute_other(here, inputs, hart, memory, &instr, word) {
         Ok(()) => Ok(true),
         Err(reason) => Err(reason),
     }
 }
 
+/// Executes an instruction that isn't quick. All but JALR, which calls and returns, are decoded once more from their
+/// word: so no instruction that is quick has to be kept in memory.
+#[inline(always)]
+fn execute_other<S: Store>(
+    here: &Here<'_>,
+    inputs: &[i32],
+    hart: &mut Hart,
+    memory: &mut S,
+    instr: &Instr,
+    word: u32,
+) -> Result<(), TrapReason>
+    requires ready { IsReady here.now hart.old }
+    requires backed { IsBacked here.now.image (S.bytes memory.old) }
+    requires pc { hart.old.core.pc + 4 < 2 ^ 32 }
+    requires word { decoded word ≡ Some instr.now }
+    ensures outcome { outcome_of result (state_in (S.bytes memory.new) hart.new) ≡
+        execute here.now.image (map word_of inputs.now) (state_in (S.bytes memory.old) hart.old) instr.now }
+    ensures leaves { LeavesSound here.now.image result hart.old hart.new }
+    ensures memory { OnErr result (S.bytes memory.new ≡ S.bytes memory.old) }
+    ensures backed { IsBacked here.now.image (S.bytes memory.new) }
+{
+    if let Instr::Jalr { rd, rs1, imm } = *instr {
+        return jalr(here, hart, rd, rs1, imm);
+    }
+    execute_word(here, inputs, hart, memory, word)
+}
+
+/// Executes the instruction of a word.
 #[inline(never)]
+fn execute_word<S: Store>(
+    here: &Here<'_>,
+    inputs: &[i32],
+    hart: &mut Hart,
+    memory: &mut S,
+    word: u32,
+) -> Result<(), TrapReason>
+    requires ready { IsReady here.now hart.old }
+    requires backed { IsBacked here.now.image (S.bytes memory.old) }
+    requires pc { hart.old.core.pc + 4 < 2 ^ 32 }
+    ensures outcome { (instr : Instr) → decoded word ≡ Some instr →
+        outcome_of result (state_in (S.bytes memory.new) hart.new) ≡
+        execute here.now.image (map word_of inputs.now) (state_in (S.bytes memory.old) hart.old) instr }
+    ensures leaves { LeavesSound here.now.image result hart.old hart.new }
+    ensures memory { OnErr result (S.bytes memory.new ≡ S.bytes memory.old) }
+    ensures backed { IsBacked here.now.image (S.bytes memory.new) }
+{
+    match decode(word) {
+        Some(instr) => execute(here, inputs, hart, memory, &instr),
+        None => Err(TrapReason::Illegal),
+    }
+}
+
 fn execute<S: Store>(
     here: &Here<'_>,
     inputs: &[i32],

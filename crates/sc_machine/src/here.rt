@@ -20,8 +20,8 @@ use sc_store::Store;
 use sqlite_items::at;
 use std::marker::Model;
 
-/// A compartment of an image, with its code, the bounds of its data and what it may call. Contracts
-/// see the image and the compartment's number.
+/// A compartment of an image, with its code and the bounds of its data. Contracts see the image and the
+/// compartment's number.
 #[derive(Drop)]
 pub struct Here<'a> {
     program: &'a Program,
@@ -31,13 +31,10 @@ pub struct Here<'a> {
     data_from: u32,
     data_bytes: u32,
     has_zone: bool,
-    callees: &'a [Callee],
 }
 
 impl<'a> Model for Here<'a> {
-    ghost use Rattle.std.specs.Prelude.{All};
     ghost use Rattle.sc_machine.specs.Place.{Site, IsPlace, IsLookedUp};
-    ghost use Rattle.sc_machine.specs.Passing.{IsCallee};
 
     ghost Value = { Site };
 
@@ -45,8 +42,7 @@ impl<'a> Model for Here<'a> {
 
     ghost invariant = { λ h. IsPlace h.program.now h.comp ×
         IsLookedUp h.program.now h.comp h.code.now h.code_from h.data_from h.data_bytes
-        h.has_zone ×
-        All (IsCallee h.program.now h.comp) h.callees.now };
+        h.has_zone };
 }
 
 impl<'a> Here<'a> {
@@ -68,7 +64,6 @@ impl<'a> Here<'a> {
             data_from: data_start(comp),
             data_bytes: STACK_SIZE + globals.len() as u32,
             has_zone: has_heap(image, comp),
-            callees: program.callees(comp),
         }
     }
 
@@ -130,8 +125,9 @@ impl<'a> Here<'a> {
         ensures entry { IfSome result (λ callee. callee.now.entry ≡ entry) }
         ensures callee { IfSome result (λ callee. IsCallee self.now.image self.now.comp callee.now) }
     {
-        let place = place_of(self.callees, entry)?;
-        Some(&self.callees[place])
+        let callees = self.program.callees(self.comp);
+        let place = place_of(callees, entry)?;
+        Some(&callees[place])
     }
 
     /// Whether the `size` bytes from an address on all lie in the compartment's stack, globals and zone.

@@ -108,6 +108,7 @@ pub(crate) fn branch(
 }
 
 /// A jump to a register plus an immediate. Through the gate it returns.
+#[inline(never)]
 pub(crate) fn jalr(
     here: &Here<'_>,
     hart: &mut Hart,

@@ -44,6 +44,7 @@ pub fn shift(core: &mut Core, op: ShiftOp, rd: Reg, rs1: Reg, amount: ShiftAmoun
 }
 
 /// An operation on two registers.
+#[inline(always)]
 pub fn op(core: &mut Core, op: OpOp, rd: Reg, rs1: Reg, rs2: Reg)
     requires { core.old.pc + 4 < 2 ^ 32 }
     ensures { core.new ≡ written_at_next core.old rd

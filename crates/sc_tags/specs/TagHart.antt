@@ -10,10 +10,10 @@ use Rattle.sc_machine.specs.Prelude.{HasRoom, IsSound, running, state_in}
 use Rattle.sc_registers.specs.declared.registers.Core.{Core}
 use Rattle.sc_machine.specs.declared.hart.Hart.{Hart}
 use Rattle.std.specs.Option.{option_or}
-use Rattle.sc_image.specs.Prelude.{stack_size, zone_size}
+use Rattle.sc_image.specs.Prelude.{data_start, stack_size, zone_size, zone_start}
 use Rattle.sc_image.specs.declared.parts.CompPart.{CompPart}
 use Rattle.std.specs.Prelude.{length, nat_le, nat_lt, ◌||◌, ◌≤◌}
-use Rattle.std.specs.Prelude.{Bool, Err, List, Ok, Result, false, is_some, nat_eq, ℕ, ◌%◌, ◌+◌, ◌<◌, ◌&&◌, ◌*◌, ◌/◌, ◌≡◌}
+use Rattle.std.specs.Prelude.{Bool, Err, List, Ok, Result, false, is_some, nat_eq, ℕ, ◌%◌, ◌+◌, ◌-◌, ◌<◌, ◌&&◌, ◌*◌, ◌/◌, ◌≡◌}
 
 -- the state with levels that a hart stands for, with this memory: the calls of its cross stack are the capabilities
 abbrev pub tagged_in : ByteMemory → Hart → Tagged
@@ -51,7 +51,7 @@ AreWholeWords memory = (address : ℕ) → is_some (memory address) ≡ is_some 
 
 -- none of the addresses with a byte is one of data
 abbrev pub IsBelowData : ByteMemory → Type 0
-IsBelowData memory = (address : ℕ) → 0x10000000 ≤ address → is_some (memory address) ≡ false
+IsBelowData memory = (address : ℕ) → data_start 0 ≤ address → is_some (memory address) ≡ false
 
 -- a hart and a memory that a run of the image can go on from, with room for `events` events in the whole trace
 pub record CanRunTagged (image : ImageParts) (events : ℕ) (hart : Hart) (memory : ByteMemory) : Type 0 where
@@ -85,7 +85,11 @@ abbrev pub is_own_code : TagSite → (address : ℕ) → Bool
 is_own_code site address =
     nat_eq (address % 4) 0 && all_tagged (tag_at site.image site.ranges) (Code site.comp) address 4
 
+-- where a compartment's zone begins, counted from where its data do
+abbrev pub zone_offset : ℕ
+zone_offset = zone_start 0 - data_start 0
+
 -- a compartment has data at an offset from where its data begin
 abbrev pub has_data_at : CompPart → (offset : ℕ) → Bool
 has_data_at comp offset = nat_lt offset (stack_size + length comp.globals) ||
-    (comp.heap && (nat_le 0x80000 offset && nat_lt offset (0x80000 + zone_size)))
+    (comp.heap && (nat_le zone_offset offset && nat_lt offset (zone_offset + zone_size)))

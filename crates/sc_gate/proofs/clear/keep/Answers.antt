@@ -1,26 +1,14 @@
 use Rattle.sc_image.specs.Prelude.{is_argument}
-use Rattle.std.proofs.Common.{arith, ◌∙◌}
-use Rattle.sc_gate.proofs.Kept.{next_cleared, next_kept, below_argument, past_argument, at_argument}
+use Rattle.std.proofs.Common.{arith, length, refl, ◌≡◌, ◌∙◌}
+use Rattle.sc_gate.proofs.Kept.{all_cleared, at_argument, below_arguments, next_all_kept, past_arguments}
 use Rattle.sc_gate.proofs.clear.keep.Goals as goal
-use Rattle.sc_gate.proofs.clear.keep.Goals.{then-number-lt-A0, then-number-lt-A0-via-then-number-lt-A0}
-use Rattle.sc_gate.proofs.clear.keep.Goals.{then-number-lt-A0-via-else-number-lt-A0+then-count-number}
-use Rattle.sc_gate.proofs.clear.keep.Goals.{else-number-lt-A0+else-count-number}
 
-pub loop-number-preserved : goal.loop-number-preserved
-loop-number-preserved c =
-    elim c.if-number-lt-A0.branch [
-      | then-number-lt-A0 w ↦
-          w.regs-is ∙
-          next_cleared (is_argument c.args.count) c.loop-number.number c.args.regs.now c.loop-number.regs (omega arith)
-          (elim w.then-number-lt-A0.branch [
-            | then-number-lt-A0-via-then-number-lt-A0 w' ↦ below_argument c.args.count c.loop-number.number
-                (omega arith)
-            | then-number-lt-A0-via-else-number-lt-A0+then-count-number w' ↦ past_argument c.args.count
-                c.loop-number.number (omega arith)
-          ])
-          c.loop-number.invariant
-      | else-number-lt-A0+else-count-number w ↦
-          w.regs-is ∙
-          next_kept (is_argument c.args.count) c.loop-number.number c.args.regs.now c.loop-number.regs (omega arith)
-          (at_argument c.args.count c.loop-number.number (omega arith) (omega arith)) c.loop-number.invariant
-    ]
+pub returns : goal.returns
+returns c =
+    let keeps = is_argument c.args.count in
+    let all = c.args.regs.now in
+    let long : length all ≡ 32 = omega arith in
+    let first = c.clear.ensures keeps all long (below_arguments c.args.count) refl in
+    let kept = next_all_kept keeps 10 c.args.count all c.clear.new.regs (omega arith)
+    (at_argument c.args.count) first in
+    c.clear-2.ensures keeps all long (past_arguments c.args.count) kept ∙ all_cleared keeps 32 all long
