@@ -188,6 +188,7 @@ impl Blocks {
     }
 
     /// Puts a cell at a place of the compartment, and changes nothing else.
+    #[inline(always)]
     pub fn store(&mut self, comp: CompId, place: Cell, value: Cell) -> Result<(), BlockFault>
         requires { IsTrue (is_place place) }
         ensures value { MatchResult result

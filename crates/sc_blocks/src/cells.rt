@@ -72,6 +72,7 @@ impl Cells {
     }
 
     /// How many there are.
+    #[inline(always)]
     pub fn len(&self) -> u32
         ensures { result ≡ length self.now }
     {
@@ -82,6 +83,7 @@ impl Cells {
     }
 
     /// Puts another cell at this place.
+    #[inline(always)]
     pub fn set(&mut self, at: u32, cell: Cell)
         requires { at < length self.old }
         ensures { self.new ≡ slice_set self.old at cell }

@@ -144,6 +144,7 @@ impl Row {
         }
     }
 
+    #[inline(always)]
     pub fn count(&self, block: usize) -> Option<u32>
         ensures { result ≡ cell_count (slice_get self.now block) }
     {
@@ -205,6 +206,7 @@ impl Row {
         }
     }
 
+    #[inline(always)]
     pub fn store(&mut self, place: Pointer, cell: Cell) -> Result<(), BlockFault>
         ensures value { MatchResult result
             (λ _. store_cell self.old (Ptr place) cell ≡ Ok self.new)

@@ -119,6 +119,7 @@ pub(crate) fn remove(slots: &mut Vec<Slot>, from: usize, to: usize)
 }
 
 /// Puts a cell into a block.
+#[inline(always)]
 pub(crate) fn put(slot: &mut Slot, index: u32, cell: Cell) -> Result<(), BlockFault>
     ensures value { MatchResult result
         (λ _. stored_in (variable slot.old.cells) index cell ≡ Ok (variable slot.new.cells))

@@ -1,5 +1,6 @@
 pub mod Common
 pub mod Ahead
+pub mod Assignments
 pub mod Blank
 pub mod Calling
 pub mod Coming

@@ -1,6 +1,7 @@
 pub mod Common
 pub mod Prelude
 pub mod Ahead
+pub mod Assignments
 pub mod Comes
 pub mod Entering
 pub mod Finding

@@ -8,6 +8,7 @@ mod leaves;
 mod lookups;
 mod machine;
 mod plain;
+mod planned;
 mod run;
 mod simple;
 mod state;

@@ -6,6 +6,7 @@ ghost use Rattle.sc_run.specs.Prelude.{ended_so, exit_of, here_of, in_body, in_r
 ghost use Rattle.sc_run.specs.Prelude.{loop_acts, next_acts, simple_does, stmt_acts, way_in};
 ghost use Rattle.std.specs.Prelude.{◌≡◌, ◌<◌, ◌≤◌, ◌∷◌, IfSome, List, MatchOption, drop, length, suc, true};
 
+use crate::planned::{is_short, planned_rounds};
 use crate::state::Machine;
 use crate::work::{Frame, Leaving, Loop, Position};
 use sc_core::{Program, TypedExpr, TypedSimple, TypedSimpleKind, TypedStmt, TypedStmtKind, Want};
@@ -27,9 +28,9 @@ fn is_assigned(
     sc_run_value::is_assigned(&mut machine.blocks, &frame.scope, place, value)
 }
 
-// A statement that makes no call and doesn't leave, or nothing.
+/// A statement that makes no call and doesn't leave, or nothing.
 #[inline(always)]
-fn is_done(program: &Program, machine: &mut Machine, frame: &Frame, stmt: &TypedStmt) -> bool
+pub fn is_done(program: &Program, machine: &mut Machine, frame: &Frame, stmt: &TypedStmt) -> bool
     ensures { PassesIf result (kept_by machine.old) (kept_by machine.new)
         (λ n. stmt_acts program.now n frame.now stmt.now tt) ended_so }
 {
@@ -179,9 +180,14 @@ pub fn exit_at_once(
     }
 }
 
-// A part of a `for` that makes no call, or nothing.
+/// A part of a `for` that makes no call, or nothing.
 #[inline(always)]
-fn is_part_done(program: &Program, machine: &mut Machine, frame: &Frame, part: &TypedSimple) -> bool
+pub fn is_part_done(
+    program: &Program,
+    machine: &mut Machine,
+    frame: &Frame,
+    part: &TypedSimple,
+) -> bool
     ensures { PassesIf result (kept_by machine.old) (kept_by machine.new)
         (λ n. simple_does c_arith frame.now.scope.structs.now (here_of frame.now.scope) frame.now.scope.params
         (calls_in program.now n) part.now.kind part.now.line tt) ended_so }
@@ -237,6 +243,9 @@ pub fn done_rounds<'a>(
     ensures passes { Passes (kept_by machine.old) (kept_by machine.new)
         (λ n. loop_acts program.now n frame.now whole.now tt) (in_round program.now frame.now whole.now result) }
 {
+    if is_short(whole.body) {
+        return planned_rounds(program, machine, frame, whole);
+    }
     while is_begun(program, machine, frame, whole) {
         if let Some(at) = done_first(program, machine, frame, whole.body) {
             return Some(at);

@@ -3,3 +3,4 @@ pub mod Lists
 pub mod Loads
 pub mod Shifts
 pub mod Operands
+pub mod Planning

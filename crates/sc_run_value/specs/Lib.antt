@@ -4,3 +4,4 @@ pub mod Access
 pub mod Assigning
 pub mod Evaluation
 pub mod Where
+pub mod Plans

@@ -19,6 +19,7 @@ pub fn cause_of(fault: BlockFault) -> Cause
 }
 
 /// The cell that holds a value.
+#[inline(always)]
 pub fn cell_of(value: Value) -> Cell
     ensures { result ≡ cell_of value }
 {
@@ -75,6 +76,7 @@ pub fn load(blocks: &Blocks, comp: CompId, pointer: bool, place: Value) -> Resul
 }
 
 /// Puts a value at a place of the compartment, and changes nothing else.
+#[inline(always)]
 pub fn store(blocks: &mut Blocks, comp: CompId, place: Value, value: Value) -> Result<(), Cause>
     ensures value { MatchResult result
         (λ _. store (memory_of blocks.old comp) place value ≡ Ok (memory_of blocks.new comp))

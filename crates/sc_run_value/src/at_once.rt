@@ -1,6 +1,6 @@
 //! Assignments and conditions at once: where they aren't found so, nothing is done, and evaluation says why.
 
-ghost use Rattle.sc_run_value.specs.Prelude.{c_arith, here_of, memory_of, ways};
+ghost use Rattle.sc_run_value.specs.Prelude.{Word, c_arith, here_of, memory_of, ways};
 ghost use Rattle.sc_run_value.specs.Assigning.{AssignedIf, HoldsIf, PutIf, StoredIf};
 ghost use Rattle.std.specs.Prelude.{◌≡◌, IfSome, Ok};
 ghost use Rattle.sc_core.specs.declared.value.Want.TheVariants as want;
@@ -31,7 +31,7 @@ pub fn holds(blocks: &Blocks, scope: &Scope, cond: &TypedExpr) -> bool
 
 // Puts a value at a place, or does nothing.
 #[inline(always)]
-fn is_stored(blocks: &mut Blocks, comp: CompId, place: Value, value: Value) -> bool
+pub(crate) fn is_stored(blocks: &mut Blocks, comp: CompId, place: Value, value: Value) -> bool
     ensures { StoredIf result comp place value (memory_of blocks.old) (memory_of blocks.new) }
 {
     match store(blocks, comp, place, value) {
@@ -76,8 +76,8 @@ fn is_put(blocks: &mut Blocks, scope: &Scope, place: &TypedExpr, value: Value) -
     }
 }
 
-/// Puts the value of an expression at the place of another, or does nothing.
-pub fn is_assigned(blocks: &mut Blocks, scope: &Scope, place: &TypedExpr, value: &TypedExpr) -> bool
+// Puts the value of an expression at the place of another, whatever it is, or does nothing.
+fn is_any_assigned(blocks: &mut Blocks, scope: &Scope, place: &TypedExpr, value: &TypedExpr) -> bool
     ensures { AssignedIf result scope.now.comp.now
         (ways c_arith scope.now.structs.now (here_of scope.now) scope.now.params place.now)
         (ways c_arith scope.now.structs.now (here_of scope.now) scope.now.params value.now)
@@ -90,4 +90,30 @@ pub fn is_assigned(blocks: &mut Blocks, scope: &Scope, place: &TypedExpr, value:
         Ok(found) => is_put(blocks, scope, place, found),
         Err(_) => false,
     }
+}
+
+// The word of an expression of integers only.
+#[inline(always)]
+fn word_at_once(blocks: &Blocks, scope: &Scope, expr: &TypedExpr) -> Option<u32>
+    ensures { IfSome result (λ word. ways c_arith scope.now.structs.now (here_of scope.now) scope.now.params expr.now
+        want.Value (memory_of blocks.now scope.now.comp.now) ≡ Ok (Word word)) }
+{
+    let row = blocks.row(*scope.comp)?;
+    quick(row, scope, expr)
+}
+
+/// Puts the value of an expression at the place of another, or does nothing.
+pub fn is_assigned(blocks: &mut Blocks, scope: &Scope, place: &TypedExpr, value: &TypedExpr) -> bool
+    ensures { AssignedIf result scope.now.comp.now
+        (ways c_arith scope.now.structs.now (here_of scope.now) scope.now.params place.now)
+        (ways c_arith scope.now.structs.now (here_of scope.now) scope.now.params value.now)
+        (memory_of blocks.old) (memory_of blocks.new) }
+{
+    let Some(word) = word_at_once(blocks, scope, value) else {
+        return is_any_assigned(blocks, scope, place, value);
+    };
+    let Some(found) = place_at_once(blocks, scope, place) else {
+        return is_any_assigned(blocks, scope, place, value);
+    };
+    is_stored(blocks, *scope.comp, found, Value::Word(word))
 }

@@ -1,7 +1,7 @@
 //! Elements of arrays that are variables (C11 6.5.2.1), by a way that gives no cause.
 
-ghost use Rattle.sc_run_value.specs.Prelude.{Add, Blocks, Ptr, Word, at_pointer, bind, c_arith, here_of, is_unsigned};
-ghost use Rattle.sc_run_value.specs.Prelude.{load, number_of, target_cells, variable_at, ways};
+ghost use Rattle.sc_run_value.specs.Prelude.{Add, Blocks, Ptr, Word, at_pointer, bind, c_arith, here_of};
+ghost use Rattle.sc_run_value.specs.Prelude.{load, moved_on, number_of, variable_at, ways};
 ghost use Rattle.std.specs.Prelude.{◌≡◌, ◌*ℤ◌, IfSome, Ok, false, pos};
 ghost use Rattle.sc_core.specs.declared.value.Want.TheVariants as want;
 
@@ -37,16 +37,36 @@ pub(crate) fn array_block(scope: &Scope, expr: &TypedExpr) -> Option<u64>
     }
 }
 
-// The cell with which an element begins, counted from the first of its array. None before that one.
+// The cell with which an element begins, counted from the first of its array, by the cells of an element. None before
+// that one.
 #[inline(always)]
-fn first_cell(scope: &Scope, array: Ty, index: Ty, word: u32) -> Option<u32>
-    ensures { IfSome result (λ cell.
-        pos cell ≡ pos (target_cells scope.now.structs.now array) *ℤ number_of (is_unsigned index) word) }
+fn first_cell(cells: u32, unsigned: bool, word: u32) -> Option<u32>
+    ensures { IfSome result (λ cell. pos cell ≡ pos cells *ℤ number_of unsigned word) }
 {
     if word > i32::MAX as u32 {
         return None;
     }
-    target_cells(scope.structs, array).checked_mul(word)
+    cells.checked_mul(word)
+}
+
+/// The place of an element of the array that a block is, by the cells of an element and the index.
+#[inline(always)]
+pub(crate) fn element_at(
+    row: &Row,
+    block: u64,
+    cells: u32,
+    unsigned: bool,
+    word: u32,
+) -> Option<Pointer>
+    ensures { IfSome result (λ place. moved_on row.now cells unsigned
+        (Ptr (record { block = block; index = 0 })) (Word word) ≡ Ok (Ptr place)) }
+{
+    let index = first_cell(cells, unsigned, word)?;
+    let count = row.count(block as usize)?;
+    if index > count {
+        return None;
+    }
+    Some(Pointer { block, index })
 }
 
 /// The place of an element of the array that a block is, by the types of array and index.
@@ -61,12 +81,8 @@ pub(crate) fn element_place(
     ensures { IfSome result (λ place. at_pointer scope.now.structs.now row.now Add types.0 types.1
         (Ptr (record { block = block; index = 0 })) (Word word) ≡ Ok (Ptr place)) }
 {
-    let index = first_cell(scope, types.0, types.1, word)?;
-    let count = row.count(block as usize)?;
-    if index > count {
-        return None;
-    }
-    Some(Pointer { block, index })
+    let cells = target_cells(scope.structs, types.0);
+    element_at(row, block, cells, types.1.is_unsigned(), word)
 }
 
 /// The word of an element of the array that a block is, by the types of array and index.
@@ -81,6 +97,7 @@ pub(crate) fn element_word(
     ensures { IfSome result (λ found. bind (at_pointer scope.now.structs.now row.now Add types.0 types.1
         (Ptr (record { block = block; index = 0 })) (Word word)) (load row.now false) ≡ Ok (Word found)) }
 {
-    let index = first_cell(scope, types.0, types.1, word)?;
+    let cells = target_cells(scope.structs, types.0);
+    let index = first_cell(cells, types.1.is_unsigned(), word)?;
     row.word(block as usize, index as usize)
 }

@@ -7,6 +7,7 @@ mod at_once;
 mod elements;
 mod expressions;
 mod moves;
+mod plans;
 mod pointers;
 mod quick;
 mod standing;
@@ -16,5 +17,8 @@ pub use access::{cell_of, free, load, store};
 pub use arguments::Arguments;
 pub use at_once::{holds, is_assigned};
 pub use expressions::{evaluate, evaluate_all, variable_at};
+pub use plans::{
+    Assignment, Operand, Plan, Target, assignment_of, holds_by, is_assigned_by, plan_of,
+};
 pub use standing::Scope;
 pub use words::{applied_one, is_true, on_words};

@@ -17,16 +17,15 @@ use sc_core::{Ty, TypedExpr, TypedKind, Value, VarRef, is_unsigned_op};
 // The word of a variable of an integer type.
 #[inline(always)]
 fn variable(row: &Row, scope: &Scope, ty: Ty, variable: VarRef) -> Option<u32>
-    ensures { IfSome result (λ word.
+    ensures word { IfSome result (λ word.
         wanted ty (variable_at (here_of scope.now) scope.now.params variable) want.Value row.now ≡ Ok (Word word)) }
+    ensures integer { IfSome result (λ word. is_pointer ty ≡ false) }
 {
-    if ty.is_array() {
-        return None;
+    match ty {
+        Ty::Int => row.word(block_of(scope, variable) as usize, 0),
+        Ty::Unsigned => row.word(block_of(scope, variable) as usize, 0),
+        _ => None,
     }
-    if ty.is_pointer() {
-        return None;
-    }
-    row.word(block_of(scope, variable) as usize, 0)
 }
 
 // An operator before a word.
@@ -42,7 +41,7 @@ fn of_one(unsigned: bool, op: UnaryOp, word: u32) -> Option<u32>
 
 // An operator between two words.
 #[inline(always)]
-fn of_two(unsigned: bool, op: BinaryOp, left: u32, right: u32) -> Option<u32>
+pub(crate) fn of_two(unsigned: bool, op: BinaryOp, left: u32, right: u32) -> Option<u32>
     ensures { IfSome result (λ found. on_words c_arith unsigned op (Word left) (Word right) ≡ Ok (Word found)) }
 {
     match on_words(unsigned, op, Value::Word(left), Value::Word(right)) {
@@ -91,9 +90,10 @@ fn joined(op: BinaryOp, types: (Ty, Ty), left: u32, right: u32) -> Option<u32>
 // The word of a literal, or of a variable of an integer type. None of another expression.
 #[inline(always)]
 fn leaf(row: &Row, scope: &Scope, expr: &TypedExpr) -> Option<u32>
-    ensures { IfSome result (λ word.
+    ensures word { IfSome result (λ word.
         ways c_arith scope.now.structs.now (here_of scope.now) scope.now.params expr.now want.Value row.now
         ≡ Ok (Word word)) }
+    ensures integer { IfSome result (λ word. is_pointer expr.now.ty ≡ false) }
 {
     match &expr.kind {
         TypedKind::Literal { value } => {
@@ -107,9 +107,42 @@ fn leaf(row: &Row, scope: &Scope, expr: &TypedExpr) -> Option<u32>
     }
 }
 
-/// The word of an expression that computes only with integers, or none where that isn't known at once. Operands that
-/// are leaves are found without a call.
+// The word of an expression whose operands are leaves. None of another expression.
+#[inline(always)]
+fn of_leaves(row: &Row, scope: &Scope, expr: &TypedExpr) -> Option<u32>
+    ensures { IfSome result (λ word.
+        ways c_arith scope.now.structs.now (here_of scope.now) scope.now.params expr.now want.Value row.now
+        ≡ Ok (Word word)) }
+{
+    match &expr.kind {
+        TypedKind::Binary { op, left, right } => {
+            let first = leaf(row, scope, left.get())?;
+            let second = leaf(row, scope, right.get())?;
+            if let Some(word) = decided(*op, first) {
+                return Some(word);
+            }
+            joined(*op, (left.get().ty, right.get().ty), first, second)
+        }
+        _ => leaf(row, scope, expr),
+    }
+}
+
+/// The word of an expression that computes only with integers, or none where that isn't known at once. One whose
+/// operands are leaves is found without a call.
+#[inline(always)]
 pub(crate) fn quick(row: &Row, scope: &Scope, expr: &TypedExpr) -> Option<u32>
+    ensures { IfSome result (λ word.
+        ways c_arith scope.now.structs.now (here_of scope.now) scope.now.params expr.now want.Value row.now
+        ≡ Ok (Word word)) }
+{
+    if let Some(word) = of_leaves(row, scope, expr) {
+        return Some(word);
+    }
+    of_parts(row, scope, expr)
+}
+
+// The word of an expression by those of its parts.
+fn of_parts(row: &Row, scope: &Scope, expr: &TypedExpr) -> Option<u32>
     ensures { IfSome result (λ word.
         ways c_arith scope.now.structs.now (here_of scope.now) scope.now.params expr.now want.Value row.now
         ≡ Ok (Word word)) }
@@ -118,7 +151,7 @@ pub(crate) fn quick(row: &Row, scope: &Scope, expr: &TypedExpr) -> Option<u32>
         TypedKind::Unary { op, of } => {
             let word = match leaf(row, scope, of.get()) {
                 Some(word) => word,
-                None => quick(row, scope, of.get())?,
+                None => of_parts(row, scope, of.get())?,
             };
             of_one(of.get().ty.is_unsigned(), *op, word)
         }
@@ -131,14 +164,14 @@ pub(crate) fn quick(row: &Row, scope: &Scope, expr: &TypedExpr) -> Option<u32>
             }
             let first = match leaf(row, scope, left.get()) {
                 Some(word) => word,
-                None => quick(row, scope, left.get())?,
+                None => of_parts(row, scope, left.get())?,
             };
             if let Some(word) = decided(*op, first) {
                 return Some(word);
             }
             let second = match leaf(row, scope, right.get()) {
                 Some(word) => word,
-                None => quick(row, scope, right.get())?,
+                None => of_parts(row, scope, right.get())?,
             };
             joined(*op, (left.get().ty, right.get().ty), first, second)
         }
@@ -152,7 +185,7 @@ pub(crate) fn quick(row: &Row, scope: &Scope, expr: &TypedExpr) -> Option<u32>
             let block = array_block(scope, base.get())?;
             let word = match leaf(row, scope, index.get()) {
                 Some(word) => word,
-                None => quick(row, scope, index.get())?,
+                None => of_parts(row, scope, index.get())?,
             };
             element_word(row, scope, (base.get().ty, index.get().ty), block, word)
         }

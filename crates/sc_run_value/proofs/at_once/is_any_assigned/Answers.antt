@@ -1,6 +1,6 @@
 use Rattle.sc_run_value.proofs.Common.{c_arith, here_of, memory_of, sym, ways}
 use Rattle.sc_run_value.proofs.Operands.{assigned_by}
-use Rattle.sc_run_value.proofs.at_once.is_assigned.Goals as goal
+use Rattle.sc_run_value.proofs.at_once.is_any_assigned.Goals as goal
 
 pub returns-in-Some : goal.returns-in-Some
 returns-in-Some c =
