@@ -322,7 +322,7 @@ module _ (program : ProgramTree) (f : Frame) where
         Passes done after next_by ended_so → Passes before after loop_by loop_by
     round_done h k m = then_passes (body_done None h k) (passes_follow in_loop _ m)
 
-  no_part : (stmts : List TypedStmt) (at : Position) → at.part.now ≡ [] → (n : ℕ) (s : State) →
+  pub no_part : (stmts : List TypedStmt) (at : Position) → at.part.now ≡ [] → (n : ℕ) (s : State) →
       left_at program f stmts (Some at) n s ≡ block_by (drop at.count stmts) n s
   no_part stmts at empty n s =
       ap (λ xs. follow in_order (block_by xs n s) (block_acts program n f (drop at.count stmts))) empty

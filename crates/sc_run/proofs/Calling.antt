@@ -370,14 +370,14 @@ module _ (program : ProgramTree) (f : Frame) (exit : Exit) where
         record
         { stands = λ whole h. call_ends whole before work caller to _ end is h; falls = λ light waiting. is_over }
 
-    pub return_steps : {work : List Work} {caller : Frame} (to : To) (crossing : Option ℕ) (v : Option Value)
+    pub return_steps : {work later : List Work} {caller g : Frame} (to : To) (crossing : Option ℕ) (v : Option Value)
         {back : Option Value} {ended emitted after : Seen} {step : Step} → ClosedBy program f exit (Ok v) →
         ended ≡ left_by f before → back ≡ back_value program f crossing v →
         emitted ≡ emitted_return program caller f crossing v ended →
         Steps program leaf_weight emitted work caller (λ n s. result_goes program caller to back s) step
-        after work caller →
-        Steps program 1 before (work ++ Caller caller to crossing ∷ []) f (λ n s. leaving s) step after work caller
-    return_steps {work} {caller} to crossing v {back} {ended} {emitted} {step} is ends gives emits_trace h =
+        after later g →
+        Steps program 1 before (work ++ Caller caller to crossing ∷ []) f (λ n s. leaving s) step after later g
+    return_steps {work} {caller = caller} to crossing v {back} {ended} {emitted} {step} is ends gives emits_trace h =
         record {
           falls = λ light waiting. eased (taken_up work (Caller caller to crossing) refl before (omega arith))
               (eased (call_over work caller crossing v ends emits_trace)

@@ -9,6 +9,7 @@ pub mod Finding
 pub mod Going
 pub mod Invoking
 pub mod Lasting
+pub mod Leading
 pub mod Lengths
 pub mod Looping
 pub mod Making

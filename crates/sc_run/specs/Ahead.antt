@@ -1,7 +1,8 @@
 -- Helping: what is done at once, and leaves nothing that waits.
 use Rattle.sc_run.specs.Common.{Frame, Left, Loop, Next, Piece, ProgramTree, State, TypedStmt, follow, in_loop}
 use Rattle.sc_run.specs.Common.{in_order, leave}
-use Rattle.std.specs.Prelude.{◌≡◌, ℕ, ◌≤◌, Bool, true, false, List, drop, length, Option, None, Some}
+use Rattle.sc_run.specs.declared.work.Work.{Work}
+use Rattle.std.specs.Prelude.{[], ◌∷◌, ◌++◌, ◌≡◌, ℕ, ◌≤◌, Bool, true, false, List, drop, length, Option, None, Some}
 use Rattle.sc_run.specs.declared.work.Position.{Position}
 use Rattle.sc_run.specs.Seen.{Seen, seen_of}
 use Rattle.sc_run.specs.Resume.{block_acts, loop_acts, next_acts}
@@ -43,3 +44,7 @@ in_round program f l None n s = loop_acts program n f l tt s
 in_round program f l (Some at) n s =
     follow in_loop (left_at program f l.body.now (Some at) n s)
     (λ a s. follow in_loop (next_acts program n f l a s) (loop_acts program n f l))
+
+-- this waits first
+abbrev pub WaitsFirst : Work → List Work → Type 0
+WaitsFirst w work = (earlier : List Work) × (work ≡ earlier ++ w ∷ [])

@@ -8,10 +8,11 @@ pub use Rattle.sc_core.specs.Prelude.{stored, struct_zeros, test, turn, values, 
 pub use Rattle.sc_core.specs.Prelude.{zeros_of}
 pub use Rattle.sc_blocks.specs.Rows.{memory_of}
 pub use Rattle.sc_run_value.specs.Prelude.{here_of}
-pub use Rattle.sc_run.specs.Ahead.{Doing, Passes, PassesIf, ended_so, in_body, in_round, left_at}
+pub use Rattle.sc_run.specs.Ahead.{Doing, Passes, PassesIf, WaitsFirst, ended_so, in_body, in_round, left_at}
 pub use Rattle.sc_run.specs.Comes.{CameTo, Comes, ComesMaking, with_exit}
 pub use Rattle.sc_run.specs.Entering.{Begun, back_from, block_for, body_acts, emitted_call, entry_from, with_variables}
 pub use Rattle.sc_run.specs.Finding.{EntryAt, FoundAt}
+pub use Rattle.sc_run.specs.Resume.{Completes, DoneOr, IsCall, Leads, Reaches, ReachesOr, call_acts}
 pub use Rattle.sc_run.specs.Resume.{Advances, EndsAs, Standing, Stands, Steps, back_to, block_acts, bodies, calls_in}
 pub use Rattle.sc_run.specs.Resume.{closes, count_way_in, denotations, does_now, exit_of, function_in, loop_acts}
 pub use Rattle.sc_run.specs.Resume.{next_acts, part_acts, result_goes, resume, returned, stmt_acts, way_in}

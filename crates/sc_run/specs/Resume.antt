@@ -5,9 +5,10 @@ use Rattle.sc_run.specs.Common.{and_then, back_cross, back_own, block_does, c_ar
 use Rattle.sc_run.specs.Common.{done, follow, function_of, here_of, in_loop, in_order, leave, loop, main_name}
 use Rattle.sc_run.specs.Common.{part_does, run_step, run_to, stmt_does, stopped_at, store_result, test, ways, within}
 use Rattle.std.specs.Prelude.{◌≡◌, ℕ, suc, ◌≤◌, ◌&&◌, ◌==◌, bytes_eq, List, [], ◌∷◌, reverse, Option, None, Some}
-use Rattle.std.specs.Prelude.{is_some}
+use Rattle.std.specs.Prelude.{is_some, map}
 use Rattle.std.specs.Option.{option_copied}
-use Rattle.sc_core.specs.Prelude.{count_ways}
+use Rattle.sc_core.specs.Prelude.{call, count_ways}
+use Rattle.sc_core.specs.declared.expr.TypedCall.{TypedCall}
 use Rattle.sc_core.specs.declared.expr.TypedExpr.{TypedExpr}
 use Rattle.sc_core.specs.declared.stmt.TypedSimple.{TypedSimple}
 use Rattle.sc_core.specs.declared.run.SourceRun.{SourceRun}
@@ -23,7 +24,7 @@ use Rattle.sc_run.specs.declared.work.Run.{Run as Run''}
 use Rattle.sc_run.specs.declared.work.Step.{Step}
 use Rattle.sc_run.specs.declared.work.Step.TheVariants.{Go, Stop}
 use Rattle.sc_run.specs.Seen.{Seen, seen_of, kept_by}
-use Rattle.sc_run.specs.Weights.{AreLight, StepFalls, most_weight}
+use Rattle.sc_run.specs.Weights.{AreLight, StepFalls, leaf_weight, most_weight}
 
 abbrev pub exit_of : Leaving → Exit
 exit_of leaving.Next = Next
@@ -143,3 +144,46 @@ module _ (program : ProgramTree) where
   Advances cost run piece step later =
       Steps cost (kept_by run.machine) run.work.items run.frame piece step
       (kept_by later.machine) later.work.items later.frame
+
+  -- a step from where a run stands there is a step from where it stands here
+  pub record Leads (cost : ℕ) (before : Seen) (work : List Work) (f : Frame) (piece : ℕ → State → Piece (Left (Unit {0})))
+      (rest : ℕ) (after : Seen) (later : List Work) (g : Frame) (left : ℕ → State → Piece (Left (Unit {0}))) : Type 0 where
+    pub leads : (step : Step) (last : Seen) (waits : List Work) (h : Frame) →
+        Steps rest after later g left step last waits h → Steps cost before work f piece step last waits h
+
+  -- a run got to what is left, where this waits and this runs
+  pub record Reaches (cost : ℕ) (before : Seen) (work : List Work) (f : Frame)
+      (piece : ℕ → State → Piece (Left (Unit {0}))) (waits : List Work) (g : Frame) (later : Run'') (rest : ℕ)
+      (left : ℕ → State → Piece (Left (Unit {0}))) : Type 0 where
+    pub waiting : later.work.items ≡ waits
+    pub frame : later.frame ≡ g
+    pub fewer : later.machine.turns ≤ before.turns
+    pub leads : Leads cost before work f piece rest (kept_by later.machine) waits g left
+
+  -- that, or this step was taken
+  abbrev pub ReachesOr : Option Step → ℕ → Seen → List Work → Frame → (ℕ → State → Piece (Left (Unit {0}))) →
+      List Work → Frame → Run'' → ℕ → (ℕ → State → Piece (Left (Unit {0}))) → Type 0
+  ReachesOr None cost before work f piece waits g later rest left =
+      Reaches cost before work f piece waits g later rest left
+  ReachesOr (Some step) cost before work f piece waits g later rest left =
+      Steps cost before work f piece step (kept_by later.machine) later.work.items later.frame
+
+  -- it is done to its end, or this step was taken
+  abbrev pub DoneOr : Option Step → ℕ → Seen → List Work → Frame → (ℕ → State → Piece (Left (Unit {0}))) → List Work →
+      Frame → Run'' → Type 0
+  DoneOr step cost before work f piece waits g later =
+      ReachesOr step cost before work f piece waits g later leaf_weight (λ n s. leave Next tt s)
+
+  -- the same of what runs
+  abbrev pub Completes : Option Step → ℕ → Run'' → (ℕ → State → Piece (Left (Unit {0}))) → Run'' → Type 0
+  Completes step cost run piece later =
+      DoneOr step cost (kept_by run.machine) run.work.items run.frame piece run.work.items run.frame later
+
+  -- a call in a statement on this line, and what is done with its result
+  abbrev pub call_acts : Frame → TypedCall → To → ℕ → ℕ → State → Piece (Left (Unit {0}))
+  call_acts f made to line n s =
+      and_then (call (here_of f.scope) (calls_in n) made.target (map (way_in f) made.args) line s) (result_goes f to)
+
+  -- a statement is such a call
+  pub record IsCall (stmt : TypedStmt) (made : TypedCall) (to : To) : Type 0 where
+    pub acts : (f : Frame) (n : ℕ) (s : State) → stmt_acts n f stmt tt s ≡ call_acts f made to stmt.line n s

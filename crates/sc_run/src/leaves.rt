@@ -140,8 +140,8 @@ fn is_main(program: &Program, frame: &Frame) -> bool
         && frame.function.name.as_bytes() == b"main".as_slice()
 }
 
-// How a call ends, once control left the body of its function.
-fn closed(program: &Program, frame: &Frame, exit: Leaving) -> Result<Option<Value>, RunEnd>
+/// How a call ends, once control left the body of its function.
+pub fn closed(program: &Program, frame: &Frame, exit: Leaving) -> Result<Option<Value>, RunEnd>
     ensures { (s : State) → closes program.now frame.now (record { exit = exit_of exit; carried = tt }) s ≡
         ended_as result s }
 {
@@ -170,8 +170,8 @@ fn variable_count(frame: &Frame) -> u64
     params.len() as u64 + locals.len() as u64
 }
 
-// The variables of a call end.
-fn end_variables(machine: &mut Machine, frame: &Frame)
+/// The variables of a call end.
+pub fn end_variables(machine: &mut Machine, frame: &Frame)
     ensures { kept_by machine.new ≡ left_by frame.now (kept_by machine.old) }
 {
     let first = frame.scope.first_block();

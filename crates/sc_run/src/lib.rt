@@ -4,11 +4,13 @@
 mod calls;
 mod globals;
 mod heap;
+mod inside;
 mod leaves;
 mod lookups;
 mod machine;
 mod plain;
 mod planned;
+mod rounds;
 mod run;
 mod simple;
 mod state;

@@ -40,8 +40,8 @@ fn evaluate_arguments(
     }
 }
 
-// The blame of a call that may not be made.
-fn refusal(frame: &Frame) -> RunEnd
+/// The blame of a call that may not be made.
+pub fn refusal(frame: &Frame) -> RunEnd
     ensures { result ≡ RunEnd.Blamed frame.now.scope.comp.now BadType 0 }
 {
     blamed(frame, Cause::BadType, 0)

@@ -8,10 +8,12 @@ ghost use Rattle.std.specs.Prelude.{◌≤◌, ◌+◌, ◌*◌, IfOk, Some, len
 ghost use Rattle.sc_core.specs.declared.value.Want.TheVariants as want;
 
 use crate::heap::{free, malloc};
+use crate::inside::call_made;
 use crate::machine::{evaluated, take_turn};
 use crate::plain::{done_first, done_rounds};
+use crate::rounds::rounds;
 use crate::simple::{assigned, call, simple};
-use crate::work::{Leaving, Loop, Now, Position, Run, Step, To, Work};
+use crate::work::{Leaving, Loop, Made, Now, Position, Run, Step, To, Work};
 use sc_base::OutOfMemory;
 use sc_core::{Program, TypedExpr, TypedSimple, TypedStmt, TypedStmtKind, Want};
 use sc_run_value::is_true;
@@ -42,8 +44,8 @@ fn branch<'a>(
     }
 }
 
-// A round of a loop: its test, a turn, and its body.
-fn begin_round<'a>(
+/// A round of a loop: its test, a turn, and its body.
+pub fn begin_round<'a>(
     program: &'a Program,
     run: &mut Run<'a, '_>,
     whole: &Loop<'a>,
@@ -109,7 +111,7 @@ pub fn round<'a>(
         None => begin_round(program, run, whole),
         Some(at) => {
             run.work.push(Work::Body(*whole))?;
-            go_on(program, run, whole.body, at)
+            rounds(program, run, whole, at)
         }
     }
 }
@@ -196,11 +198,14 @@ fn statement<'a>(
             value,
             line,
         )),
-        TypedStmtKind::AssignCall { place, call: made } => {
+        TypedStmtKind::AssignCall { place, call } => {
             let to = To::Place(place.get(), line);
-            call(program, run, made, to, line)
+            call_made(program, run, &Made { call, to, line })
         }
-        TypedStmtKind::Call(made) => { call(program, run, made, To::Nowhere, line) }
+        TypedStmtKind::Call(call) => {
+            let to = To::Nowhere;
+            call_made(program, run, &Made { call, to, line })
+        }
         TypedStmtKind::Malloc {
             place,
             count,

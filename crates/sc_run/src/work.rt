@@ -1,7 +1,9 @@
 //! What a run does at the moment, and what waits.
 
 use crate::state::Machine;
-use sc_core::{RunEnd, TypedExpr, TypedFunction, TypedSimple, TypedStmt, TypedStruct, Value};
+use sc_core::{
+    RunEnd, TypedCall, TypedExpr, TypedFunction, TypedSimple, TypedStmt, TypedStruct, Value,
+};
 use sc_event::CompId;
 use sc_run_value::Scope;
 
@@ -45,6 +47,14 @@ pub enum To<'a> {
     Place(&'a TypedExpr, u32),
     /// It is returned.
     Back,
+}
+
+/// A call in a statement, what is done with its result, and the line of the statement.
+#[derive(Clone, Copy)]
+pub struct Made<'a> {
+    pub call: &'a TypedCall,
+    pub to: To<'a>,
+    pub line: u32,
 }
 
 /// What waits while something else runs.

@@ -1,6 +1,10 @@
-ghost use Rattle.std.specs.Prelude.{◌≡◌, [], ◌∷◌, ◌++◌, OnOk};
+ghost use Rattle.sc_run_value.specs.Prelude.{c_arith, here_of, memory_of, values, ways};
+ghost use Rattle.std.specs.Prelude.{◌≡◌, ◌≤◌, [], ◌∷◌, ◌++◌, IsTrue, Ok, OnOk, length, map, take};
 
-use sc_core::Value;
+use crate::Scope;
+use crate::expressions::value_at_once;
+use sc_blocks::Blocks;
+use sc_core::{TypedExpr, Value};
 use smallvec::SmallVec;
 use std::alloc::{AllocError, Global};
 use std::marker::Model;
@@ -43,4 +47,24 @@ impl Arguments {
     {
         self.kept.as_slice()
     }
+}
+
+/// Evaluates arguments into the first places of `found`, where it has room and each value is found at once.
+pub fn are_found(blocks: &Blocks, scope: &Scope, exprs: &[TypedExpr], found: &mut [Value]) -> bool
+    ensures room { IsTrue result → length exprs.now ≤ length found.old }
+    ensures many { length found.new ≡ length found.old }
+    ensures values { IsTrue result → values (map
+        (ways c_arith scope.now.structs.now (here_of scope.now) scope.now.params) exprs.now)
+        (memory_of blocks.now scope.now.comp.now) ≡ Ok (take (length exprs.now) found.new) }
+{
+    if exprs.len() > found.len() {
+        return false;
+    }
+    for at in 0..exprs.len() {
+        match value_at_once(blocks, scope, &exprs[at]) {
+            Some(value) => found[at] = value,
+            None => return false,
+        }
+    }
+    true
 }

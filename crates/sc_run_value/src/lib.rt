@@ -14,7 +14,7 @@ mod standing;
 mod words;
 
 pub use access::{cell_of, free, load, store};
-pub use arguments::Arguments;
+pub use arguments::{Arguments, are_found};
 pub use at_once::{holds, is_assigned};
 pub use expressions::{evaluate, evaluate_all, variable_at};
 pub use plans::{

@@ -29,14 +29,14 @@ returns-in-Assign c = stmt_as c.args.stmt.now (layer.Assign c.get.result.now c.i
     (rw c.get.ensures.value (c.in-Assign.is ∙ sym (rolls-Assign _ _))) (omega arith) c.assigned.ensures
 
 pub returns-in-AssignCall : goal.returns-in-AssignCall
-returns-in-AssignCall c = IfOk-weaker c.call.result _ _ (λ step h. stmt_as c.args.stmt.now
-    (layer.AssignCall c.get-in-AssignCall.result.now c.in-AssignCall.made)
+returns-in-AssignCall c = IfOk-weaker c.call_made.result _ _ (λ step h. stmt_as c.args.stmt.now
+    (layer.AssignCall c.get-in-AssignCall.result.now c.in-AssignCall.call)
     (rw c.get-in-AssignCall.ensures.value (c.in-AssignCall.is ∙ sym (rolls-AssignCall _ _))) (omega arith) h)
-    c.call.ensures
+    c.call_made.ensures
 
 pub returns-in-Call : goal.returns-in-Call
-returns-in-Call c = IfOk-weaker c.call-in-Call.result _ _ (λ step h. stmt_as c.args.stmt.now (layer.Call c.in-Call.made)
-    (c.in-Call.is ∙ sym (rolls-Call _)) (omega arith) h) c.call-in-Call.ensures
+returns-in-Call c = IfOk-weaker c.call_made-in-Call.result _ _ (λ step h. stmt_as c.args.stmt.now
+    (layer.Call c.in-Call.call) (c.in-Call.is ∙ sym (rolls-Call _)) (omega arith) h) c.call_made-in-Call.ensures
 
 pub returns-in-Malloc : goal.returns-in-Malloc
 returns-in-Malloc c = IfOk-weaker c.malloc.result _ _ (λ step h. stmt_as c.args.stmt.now
@@ -48,9 +48,9 @@ returns-in-Free c = stmt_as c.args.stmt.now (layer.Free c.in-Free.pointer) (c.in
     (omega arith) c.free.ensures
 
 pub returns-in-ReturnCall : goal.returns-in-ReturnCall
-returns-in-ReturnCall c = IfOk-weaker c.call-in-ReturnCall.result _ _ (λ step h. stmt_as c.args.stmt.now
+returns-in-ReturnCall c = IfOk-weaker c.call.result _ _ (λ step h. stmt_as c.args.stmt.now
     (layer.ReturnCall c.in-ReturnCall.made) (c.in-ReturnCall.is ∙ sym (rolls-ReturnCall _)) (omega arith)
-    h) c.call-in-ReturnCall.ensures
+    h) c.call.ensures
 
 pub returns-in-ReturnValue : goal.returns-in-ReturnValue
 returns-in-ReturnValue c = stmt_as c.args.stmt.now (layer.ReturnValue c.in-ReturnValue.value)

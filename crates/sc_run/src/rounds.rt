@@ -1,0 +1,149 @@
+//! Statements with calls in them, and rounds of loops, as far as they are done at once.
+
+ghost use Rattle.sc_run.specs.Prelude.{Advances, Completes, IsCall, IsLess, ReachesOr, WaitsFirst, block_acts};
+ghost use Rattle.sc_run.specs.Prelude.{block_weight, call_acts, follow, in_order, kept_by, left_at, place_weight};
+ghost use Rattle.std.specs.Prelude.{◌≡◌, ◌+◌, ◌≤◌, IfOk, IfSome, Some, length, suc};
+
+use crate::inside::made_at_once;
+use crate::plain::{done_first, done_rounds, is_next_done};
+use crate::steps::{begin_round, go_on};
+use crate::work::{Leaving, Loop, Made, Now, Position, Run, Step, To, Work};
+use sc_base::OutOfMemory;
+use sc_core::{Program, TypedStmt, TypedStmtKind};
+
+// The call of a statement that is no more.
+#[inline(always)]
+fn call_in<'a>(program: &'a Program, stmt: &'a TypedStmt) -> Option<Made<'a>>
+    ensures call { IfSome result (λ made. IsCall program.now stmt.now made.call.now made.to) }
+    ensures line { IfSome result (λ made. made.line ≡ stmt.now.line) }
+{
+    match &stmt.kind {
+        TypedStmtKind::AssignCall { place, call } => Some(Made {
+            call,
+            to: To::Place(place.get(), stmt.line),
+            line: stmt.line,
+        }),
+        TypedStmtKind::Call(call) => Some(Made {
+            call,
+            to: To::Nowhere,
+            line: stmt.line,
+        }),
+        _ => None,
+    }
+}
+
+// A call before statements that follow it. They wait for it where it isn't done at once.
+fn made_before<'a>(
+    program: &'a Program,
+    run: &mut Run<'a, '_>,
+    made: &Made<'a>,
+    rest: &'a [TypedStmt],
+) -> Result<Option<Step<'a>>, OutOfMemory>
+    ensures { IfOk result (λ step. ReachesOr program.now step (8 + block_weight rest.now) (kept_by run.old.machine)
+        run.old.work.items run.old.frame (λ n s. follow in_order
+        (call_acts program.now run.old.frame made.now.call.now made.now.to made.now.line n s)
+        (block_acts program.now n run.old.frame rest.now)) run.old.work.items run.old.frame run.new
+        (suc (block_weight rest.now)) (λ n s. block_acts program.now n run.old.frame rest.now tt s)) }
+{
+    run.work.push(Work::Rest(rest))?;
+    match made_at_once(program, run, made) {
+        Ok(None) => {
+            run.work.pop();
+            Ok(None)
+        }
+        Ok(Some(step)) => Ok(Some(step)),
+        Err(error) => Err(error),
+    }
+}
+
+// Statements, of which the first isn't done at once where it calls nobody.
+fn done_with_calls<'a>(
+    program: &'a Program,
+    run: &mut Run<'a, '_>,
+    stmts: &'a [TypedStmt],
+) -> Result<Option<Step<'a>>, OutOfMemory>
+    ensures { IfOk result (λ step. Completes program.now step (suc (block_weight stmts.now)) run.old
+        (λ n s. block_acts program.now n run.old.frame stmts.now tt s) run.new) }
+{
+    let mut at = 0;
+    while at < stmts.len() {
+        let Some(made) = call_in(program, &stmts[at]) else {
+            return Ok(Some(Step::Go(Now::Run(&stmts[at..]))));
+        };
+        let rest = &stmts[at + 1..];
+        if rest.is_empty() {
+            return made_at_once(program, run, &made);
+        }
+        match made_before(program, run, &made, rest) {
+            Ok(None) => {}
+            Ok(Some(step)) => return Ok(Some(step)),
+            Err(error) => return Err(error),
+        }
+        match done_first(program, &mut run.machine, &run.frame, rest) {
+            None => return Ok(None),
+            Some(place) => {
+                if !place.part.is_empty() {
+                    return match go_on(program, run, rest, place) {
+                        Ok(step) => Ok(Some(step)),
+                        Err(error) => Err(error),
+                    };
+                }
+                at += 1 + place.count;
+            }
+        }
+    }
+    Ok(None)
+}
+
+// Statements from a place in them.
+fn done_from<'a>(
+    program: &'a Program,
+    run: &mut Run<'a, '_>,
+    stmts: &'a [TypedStmt],
+    at: Position<'a>,
+) -> Result<Option<Step<'a>>, OutOfMemory>
+    requires { at.count ≤ length stmts.now }
+    ensures { IfOk result (λ step. Completes program.now step (place_weight stmts.now at.entry) run.old
+        (left_at program.now run.old.frame stmts.now (Some at.entry)) run.new) }
+{
+    if at.part.is_empty() {
+        return done_with_calls(program, run, &stmts[at.count..]);
+    }
+    match go_on(program, run, stmts, at) {
+        Ok(step) => Ok(Some(step)),
+        Err(error) => Err(error),
+    }
+}
+
+/// Rounds of a loop that waits, from a place in its body, as far as they are done at once.
+pub fn rounds<'a>(
+    program: &'a Program,
+    run: &mut Run<'a, '_>,
+    whole: &Loop<'a>,
+    first: Position<'a>,
+) -> Result<Step<'a>, OutOfMemory>
+    requires within { first.count ≤ length whole.now.body.now }
+    requires less { IsLess whole.now.body.now first }
+    requires waits { WaitsFirst (Work.Body whole.now) run.old.work.items }
+    ensures { IfOk result (λ step. Advances program.now (place_weight whole.now.body.now first.entry) run.old
+        (left_at program.now run.old.frame whole.now.body.now (Some first.entry)) step run.new) }
+{
+    let mut at = first;
+    loop {
+        match done_from(program, run, whole.body, at) {
+            Ok(None) => {}
+            Ok(Some(step)) => return Ok(step),
+            Err(error) => return Err(error),
+        }
+        if !is_next_done(program, &mut run.machine, &run.frame, whole) {
+            return Ok(Step::Go(Now::Leave(Leaving::Next)));
+        }
+        match done_rounds(program, &mut run.machine, &run.frame, whole) {
+            None => {
+                run.work.pop();
+                return begin_round(program, run, whole);
+            }
+            Some(place) => at = place,
+        }
+    }
+}
