@@ -17,20 +17,33 @@ use sc_run_value::{Assignment, Plan, assignment_of, plan_of};
 // A loop with a longer body is done without plans.
 const MOST: usize = 4;
 
-/// Whether plans of these statements are worth while.
+// Whether a statement is an assignment without a call.
+#[inline(always)]
+fn is_assignment(stmt: &TypedStmt) -> bool {
+    match &stmt.kind {
+        TypedStmtKind::Assign { .. } => true,
+        _ => false,
+    }
+}
+
+/// Whether plans of these statements are worth while: they are few, and assignments.
 #[inline(always)]
 pub fn is_short(stmts: &[TypedStmt]) -> bool
     ensures { result ≡ true → length stmts.now ≤ 4 }
 {
-    if stmts.len() > MOST {
-        return false;
-    }
     match stmts {
-        [] => false,
-        [stmt, ..] => match &stmt.kind {
-            TypedStmtKind::Assign { .. } => true,
-            _ => false,
-        },
+        [first] => is_assignment(first),
+        [first, second] => is_assignment(first) && is_assignment(second),
+        [first, second, third] => {
+            is_assignment(first) && is_assignment(second) && is_assignment(third)
+        }
+        [first, second, third, fourth] => {
+            is_assignment(first)
+                && is_assignment(second)
+                && is_assignment(third)
+                && is_assignment(fourth)
+        }
+        _ => false,
     }
 }
 
