@@ -162,6 +162,8 @@ SHAPES = {
     "members": ("struct S {\n", "int m@;\n", "};\n" + END),
     "locals": ("int main(void) {\n", "int l@;\n", "return 0;\n}\n"),
     "assignments": (BODY, "x=1;", "return 0;\n}\n"),
+    "empty statements": (BODY, ";", "return 0;\n}\n"),
+    "sums of names": (BODY, "x=" + "x+" * 240 + "x;\n", "return 0;\n}\n"),
     "calls": (BODY, "r=f(1,1,1,1,1,1,1,1);", "return 0;\n}\n"),
     "ifs": (BODY, "if(1){}", "return 0;\n}\n"),
     "deep sums": (BODY, "x=" + "1+(" * 240 + "1" + ")" * 240 + ";\n", "return 0;\n}\n"),

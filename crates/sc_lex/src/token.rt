@@ -21,11 +21,11 @@ pub enum TokenKind {
 /// newline.
 #[derive(Clone, Copy, Debug, PartialEq, Eq)]
 pub struct Token {
-    pub kind: TokenKind,
     /// The place of the first byte.
     pub start: usize,
     /// The place after the last byte.
     pub end: usize,
     /// The line of the first byte, where the bytes begin in line 1.
     pub line: u32,
+    pub kind: TokenKind,
 }

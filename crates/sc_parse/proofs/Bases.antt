@@ -5,7 +5,7 @@ use Rattle.sc_parse.proofs.Common.{ap, arith, array, array_length, begins_with, 
 use Rattle.sc_parse.proofs.Common.{elements_at, false, first_line, first_mark, following, glued, int, integer_by}
 use Rattle.sc_parse.proofs.Common.{is_base, is_void, keyword_at, length, length_at, line_at, name_ahead, no_base}
 use Rattle.sc_parse.proofs.Common.{none-some, plain, refl, same_some, signed, signed_int, true, type_of, unsigned}
-use Rattle.sc_parse.proofs.Common.{unsigned_int, ℕ, ◌++◌, ◌+◌, ◌<◌, ◌>>=◌, ◌∙◌, ◌∷◌, ◌≡◌}
+use Rattle.sc_parse.proofs.Common.{unsigned_int, ℕ, ◌++◌, ◌<◌, ◌>>=◌, ◌∙◌, ◌∷◌, ◌≡◌}
 use Rattle.sc_parse.specs.Types.{struct}
 use Rattle.sc_parse_expr.specs.declared.mark.Mark.TheVariants as mark
 use Rattle.sc_parse_expr.specs.declared.lexeme.Symbol.TheVariants as symbol

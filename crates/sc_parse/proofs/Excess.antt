@@ -1,7 +1,11 @@
 -- Brackets along a section.
 use Rattle.sc_base.specs.Prelude.{most_brackets}
 use Rattle.sc_parse.proofs.Common.{IsExcess, Lexeme, List, [], ap, arith, get_or, length, max, most_open, open_after}
-use Rattle.sc_parse.proofs.Common.{open_along, refl, sym, take, take_more, ℕ, ◌++◌, ◌+◌, ◌<◌, ◌∙◌, ◌∷◌, ◌≡◌, ◌≤◌}
+use Rattle.sc_parse.proofs.Common.{Some, drop, open_along, refl, suc, sym, take, take_more, zero, ℕ, ◌++◌, ◌+◌, ◌<◌}
+use Rattle.sc_parse.proofs.Common.{◌∙◌, ◌∷◌, ◌≡◌, ◌≤◌}
+use Rattle.sc_parse.proofs.Common.{Mark, None, Symbol, none-some, open_after_mark, same_some}
+use Rattle.sc_parse.specs.Prelude.{mark_at, mark_by, open_at}
+use Rattle.sc_parse_expr.specs.declared.lexeme.Symbol.TheVariants as symbol
 
 along_snoc : (n : ℕ) (ts : List Lexeme) (t : Lexeme) →
     open_along n (ts ++ t ∷ []) ≡ open_after t.symbol (open_along n ts)
@@ -51,3 +55,34 @@ excess lexemes at count next t h w is q many =
     let same = q ∙ ap (λ u. open_after u.symbol count) is in
     let most = more_most lexemes at count t h w in
     record { within = h; few = w.few; many = omega (arith, most, same, many) }
+
+pub open_marked : (ts : List Lexeme) (m : Mark) (count : ℕ) → mark_at ts ≡ Some m →
+    open_at ts count ≡ open_after_mark m count
+open_marked [] m count e = absurd (none-some m e)
+open_marked (t ∷ ts) m count e = go t.symbol e
+  where
+    go : (s : Symbol) → mark_by s ≡ Some m → open_after s count ≡ open_after_mark m count
+    go (symbol.Mark n) e = ap (λ k. open_after_mark k count) (same_some e)
+    go _ e = absurd (none-some m e)
+
+pub open_unmarked : (ts : List Lexeme) (count : ℕ) → mark_at ts ≡ None → open_at ts count ≡ count
+open_unmarked [] count e = refl
+open_unmarked (t ∷ ts) count e = go t.symbol e
+  where
+    go : (s : Symbol) → mark_by s ≡ None → open_after s count ≡ count
+    go (symbol.Mark n) e = absurd (none-some n (sym e))
+    go _ e = refl
+
+pub ruleset opens = (open_marked, open_unmarked)
+
+-- the lexeme at a place
+pub record StandsAt (lexemes : List Lexeme) (at : ℕ) : Type 0 where
+  pub first : Lexeme
+  pub there : first ≡ get_or lexemes at first
+  pub opened : (count : ℕ) → open_at (drop at lexemes) count ≡ open_after first.symbol count
+
+pub stands_at : (lexemes : List Lexeme) (at : ℕ) → at < length lexemes → StandsAt lexemes at
+stands_at [] at h = absurd (omega (arith, h))
+stands_at (t ∷ ts) zero h = record { first = t; there = refl; opened = λ count. refl }
+stands_at (t ∷ ts) (suc at) h = let r = stands_at ts at (omega (arith, h)) in
+    record { first = r.first; there = r.there; opened = r.opened }

@@ -16,4 +16,3 @@ pub mod Sections
 pub mod Naming
 pub mod Excess
 pub mod Trees
-pub mod Sayings

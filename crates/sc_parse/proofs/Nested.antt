@@ -2,7 +2,7 @@
 use Rattle.sc_parse.proofs.Common.{[], ExprTree, Grouped, IsKeyword, IsMark, Keyword, Lexeme, List, Option, Reader}
 use Rattle.sc_parse.proofs.Common.{SimpleKind, Some, SpellsBlock, SpellsIf, SpellsStmts, StmtKind, StmtTree, after_else}
 use Rattle.sc_parse.proofs.Common.{after_for, after_if, after_while, ap, append-nil, append_assoc, arith, begins_with}
-use Rattle.sc_parse.proofs.Common.{block, block_at, bound, choice, cond, drop, else_at, empty, ended_at, false}
+use Rattle.sc_parse.proofs.Common.{block, block_at, bound, choice, drop, else_at, empty, ended_at, false}
 use Rattle.sc_parse.proofs.Common.{false≢true, first_line, first_part, for_head, for_height, for_loop, for_parts}
 use Rattle.sc_parse.proofs.Common.{if_height, is_else, is_if, keyword_at, kind_by, kind_height, stmt_kind_of, last_part}
 use Rattle.sc_parse.proofs.Common.{lone_if, loop_of, middle_part, none-some, otherwise, otherwise_if, plain_at}

@@ -3,12 +3,12 @@ use Rattle.sc_parse.proofs.Common.{[], CallTree, ExprTree, IsKeyword, IsMark, Ke
 use Rattle.sc_parse.proofs.Common.{SimpleKind, SimpleTree, Some, Spells, SpellsCall, SpellsIf, SpellsKind, SpellsPart}
 use Rattle.sc_parse.proofs.Common.{SpellsStmtKind, SpellsTest, StmtKind, StmtTree, allocate, release, a_part, a_test}
 use Rattle.sc_parse.proofs.Common.{ap, append_assoc, arith, assign, assign_call, begins_with, bound, break_height, call}
-use Rattle.sc_parse.proofs.Common.{choice, compound, cond, cond_is, condition, continue_height, drop, empty}
+use Rattle.sc_parse.proofs.Common.{choice, compound, cond, cond_is, continue_height, drop, empty}
 use Rattle.sc_parse.proofs.Common.{empty_height, ended_at, expr_height, false, false≢true, first_line, first_mark}
 use Rattle.sc_parse.proofs.Common.{for_loop, glued, is_base, is_else, is_if, is_some, keyword_at, kind_height}
 use Rattle.sc_parse.proofs.Common.{stmt_kind_of, le-leb, lead_by, leb, leb-true, length, length-append, lone_if}
 use Rattle.sc_parse.proofs.Common.{no_base, no_part, no_test, not, option_height, otherwise, otherwise_if, part_at}
-use Rattle.sc_parse.proofs.Common.{plain_at, plain_height, read, refl, return_call, return_call_height, return_height}
+use Rattle.sc_parse.proofs.Common.{plain_at, plain_height, refl, return_call, return_call_height, return_height}
 use Rattle.sc_parse.proofs.Common.{return_nothing, return_value, returned, simple_at, simple_or_none, simple_tree}
 use Rattle.sc_parse.proofs.Common.{step_after, step_before, step_of, stmt_tree, sym, test_at, true, value_height}
 use Rattle.sc_parse.proofs.Common.{value_returned, while_loop, ℕ, ◌++◌, ◌-◌, ◌<◌, ◌>>=◌, ◌∙◌, ◌∷◌, ◌≡◌, ◌≤◌}

@@ -7,7 +7,7 @@ use Rattle.sc_parse.proofs.Common.{begins_call, begins_value, begins_with, bound
 use Rattle.sc_parse.proofs.Common.{compound, compound_of, cond_is, drop, expr_height, false, false≢true, index}
 use Rattle.sc_parse.proofs.Common.{is_place, is_some, joined, lead_by, literal, looser, lt-ltb, ltb-true, makes_value}
 use Rattle.sc_parse.proofs.Common.{mark_at, mark_by, max, member, none-some, operand_at, option_map_or, parenthesised}
-use Rattle.sc_parse.proofs.Common.{place_at, placed, prefix, prefix_of, prefixed, read, read_sound, refl, rules}
+use Rattle.sc_parse.proofs.Common.{place_at, placed, prefix, prefix_of, prefixed, read_sound, refl, rules}
 use Rattle.sc_parse.proofs.Common.{same_some, simple_at, simple_kind_height, step_after, step_at, step_before, step_of}
 use Rattle.sc_parse.proofs.Common.{stepped, subst, sym, true, unary_place, unstepped, updates, variable, ℕ, ◌++◌, ◌+◌}
 use Rattle.sc_parse.proofs.Common.{◌-◌, ◌<◌, ◌>>=◌, ◌∙◌, ◌∷◌, ◌≡◌, ◌≤◌}

@@ -1,18 +1,14 @@
 -- Lists as they are spelled.
 use Rattle.sc_parse.specs.Common.{IsMark, Lexeme, Number}
-use Rattle.std.specs.Prelude.{◌≡◌, ℕ, List, [], ◌∷◌, ◌++◌}
+use Rattle.std.specs.Prelude.{◌≡◌, List, [], ◌∷◌, ◌++◌}
 use Rattle.sc_parse_expr.specs.declared.mark.Mark.TheVariants as mark
 use Rattle.sc_parse_expr.specs.declared.lexeme.Symbol.TheVariants as symbol
 pub use Rattle.sc_parse_expr.specs.Lexemes.{IsKeyword}
+pub use Rattle.sc_parse_expr.specs.Prefixes.{first_line}
 
 -- the lexeme is this integer
 abbrev pub IsInteger : Number → Lexeme → Type 0
 IsInteger number t = t.symbol ≡ symbol.Integer number
-
--- the line of the first lexeme, 0 where there is none
-abbrev pub first_line : List Lexeme → ℕ
-first_line [] = 0
-first_line (t ∷ ts) = t.line
 
 -- One item or more, with commas between them.
 pub data Separated {A : Type 0} (Item : List Lexeme → A → Type 0) : List Lexeme → List A → Type 0 where

@@ -1,12 +1,19 @@
 -- Helping: where too many brackets are open, and what is parsed as a function of the lexemes.
 use Rattle.sc_base.specs.Prelude.{most_brackets}
 use Rattle.sc_parse.specs.Common.{Lexeme, SectionTree, most_open}
-use Rattle.std.specs.Prelude.{◌≡◌, ℕ, ◌+◌, ◌≤◌, ◌<◌, nat_le, Bool, List, take, length, Option, Some, None, Result, Ok}
+use Rattle.sc_parse_expr.specs.Brackets.{open_after}
+use Rattle.std.specs.Prelude.{◌≡◌, ℕ, ◌+◌, ◌≤◌, ◌<◌, nat_le, Bool, List, [], ◌∷◌, take, length, Option, Some, None}
+use Rattle.std.specs.Prelude.{Result, Ok}
 use Rattle.std.specs.Prelude.{Err, if◌then◌else◌}
 use Rattle.std.specs.Option.{option_map}
 use Rattle.sc_lex.specs.declared.fault.TextFault.{TextFault}
 use Rattle.sc_lex.specs.declared.fault.TextFault.TheVariants as fault
 use Rattle.sc_parse.specs.SectionReaders.{section_at}
+
+-- how many brackets are open after the first lexeme, where so many are before
+abbrev pub open_at : List Lexeme → ℕ → ℕ
+open_at [] count = count
+open_at (t ∷ ts) count = open_after t.symbol count
 
 -- at this place is the first lexeme after which more than 1,024 brackets are open
 pub record IsExcess (lexemes : List Lexeme) (at : ℕ) : Type 0 where

@@ -15,7 +15,7 @@ pub use Rattle.sc_parse.specs.Lists.{Grouped, IsInteger, IsKeyword, Separated, f
 pub use Rattle.sc_parse.specs.Lookahead.{Reader, after_inner_comma, begins_call, begins_with, ended_by, integer_by}
 pub use Rattle.sc_parse.specs.Lookahead.{is_base, is_else, is_int, is_void, keyword_at, keyword_by, past_int}
 unfoldable pub use Rattle.sc_parse.specs.Lookahead.{star_count}
-pub use Rattle.sc_parse.specs.Outcomes.{IsExcess, Parses}
+pub use Rattle.sc_parse.specs.Outcomes.{IsExcess, Parses, open_at}
 unfoldable pub use Rattle.sc_parse.specs.Outcomes.{tree_of}
 pub use Rattle.sc_parse.specs.Readers.{Adder, add_global, add_member, all_consts, all_separated, base_by, begins_struct}
 pub use Rattle.sc_parse.specs.Readers.{bracketed_length, const_tree, declarator, elements_at, head_tree, is_struct_word}

@@ -1,10 +1,11 @@
 -- Helping: reading functions and sections from left to right, where `free` brackets may be open and trees may be as
 -- high as `limit`.
+pub use Rattle.sc_parse_expr.specs.Prefixes.{is_empty}
 use Rattle.sc_base.specs.Prelude.{most_brackets, most_height}
 use Rattle.sc_parse.specs.Common.{BaseTree, Decl, Declarator, ExportLine, ExprTree, FunctionHead, FunctionTree}
 use Rattle.sc_parse.specs.Common.{HeadTree, ImportLine, Lexeme, LocalTree, ParamTree, SectionTree, StmtTree, Symbol}
 use Rattle.sc_parse.specs.Common.{TypeName, following, ◌>>=◌}
-use Rattle.std.specs.Prelude.{ℕ, zero, suc, ◌+◌, Bool, true, false, not, List, [], ◌∷◌, ◌++◌, length, drop, Option}
+use Rattle.std.specs.Prelude.{ℕ, zero, suc, ◌+◌, Bool, not, List, [], ◌∷◌, ◌++◌, length, drop, Option}
 use Rattle.std.specs.Prelude.{Some, None, if◌then◌else◌}
 use Rattle.std.specs.Option.{option_map_or}
 use Rattle.sc_ast.specs.declared.section.FunctionParam.{FunctionParam}
@@ -92,10 +93,6 @@ decl_at free limit decls ts =
     if begins_struct ts then adds struct_decl_at decls ts
     else (if begins_head ts then adds (headed_at free limit) decls ts
     else declaration_at add_global decls ts)
-
-abbrev pub is_empty : List Lexeme → Bool
-is_empty [] = true
-is_empty (t ∷ ts) = false
 
 abbrev pub decls_at : (free limit : ℕ) → Reader (List Decl)
 decls_at free limit ts = grouped is_empty (decl_at free limit) (length ts + 1) [] ts

@@ -1,7 +1,7 @@
 -- Helping: reading calls and statements from left to right, where a statement's parts may be `room` high and `free`
 -- brackets may be open.
 use Rattle.sc_parse.specs.Common.{BinaryOp, CallTree, ExprTree, Keyword, Lexeme, Mark, SimpleKind, SimpleTree, StmtKind}
-use Rattle.sc_parse.specs.Common.{StmtTree, Symbol, TypeName, following, is_place, stmt_kind_of, loosest_level}
+use Rattle.sc_parse.specs.Common.{StmtTree, TypeName, following, is_place, stmt_kind_of, loosest_level}
 use Rattle.sc_parse.specs.Common.{name_at, read, unary_level, ◌>>=◌}
 use Rattle.std.specs.Prelude.{ℕ, zero, suc, ◌+◌, ◌-◌, Bool, true, false, nat_le, nat_lt, List, [], ◌∷◌, length, drop}
 use Rattle.std.specs.Prelude.{Option, Some, None, if◌then◌else◌}
@@ -13,7 +13,7 @@ use Rattle.sc_ast.specs.declared.stmt.SimpleKind.TheVariants as simple
 use Rattle.sc_ast.specs.declared.stmt.StmtKind.TheVariants as stmt
 use Rattle.sc_parse_expr.specs.declared.mark.Keyword.TheVariants as word
 use Rattle.sc_parse_expr.specs.declared.mark.Mark.TheVariants as mark
-use Rattle.sc_parse_expr.specs.declared.lexeme.Symbol.TheVariants as symbol
+pub use Rattle.sc_parse_expr.specs.Prefixes.{mark_at, mark_by}
 use Rattle.sc_parse.specs.declared.simple.Change.{Change}
 use Rattle.sc_parse.specs.declared.simple.Change.TheVariants as change
 use Rattle.sc_parse.specs.declared.simple.Placed.{Placed}
@@ -43,15 +43,6 @@ args_in_parens free room ts = following mark.OpenParen ts >>=
 
 unfoldable pub call_at : (free : ℕ) → ℕ → Reader CallTree
 call_at free room ts = name_at ts >>= (λ x. args_in_parens free room x.1 >>= (λ y. Some (call_tree x.0 y.0, y.1)))
-
-abbrev pub mark_by : Symbol → Option Mark
-mark_by (symbol.Mark m) = Some m
-mark_by _ = None
-
--- the mark at the start
-abbrev pub mark_at : List Lexeme → Option Mark
-mark_at [] = None
-mark_at (t ∷ ts) = mark_by t.symbol
 
 -- what a mark after a place does to it
 abbrev pub change_of : Mark → Option Change

@@ -5,20 +5,21 @@ ghost use Rattle.sc_parse.specs.Prelude.{Agrees, add_arg, all_separated, args_at
 ghost use Rattle.sc_parse.specs.Prelude.{condition_at, expr_at};
 ghost use Rattle.std.specs.Prelude.{◌≡◌, ◌+◌, [], length};
 
-use crate::lookahead::{begins_with, ended_by, skip, take};
+use crate::lookahead::{ended_by, skip};
 use sc_ast::{CallTree, ExprTree, Exprs};
 use sc_base::{LOOSEST, MAX_BRACKETS};
-use sc_parse_expr::{Built, Lexeme, Mark, SyntaxFault, name_at, parse_level, refused};
+use sc_parse_expr::{
+    Built, Lexemes, Mark, SyntaxFault, begins_with, name_at, parse_level, refused, take,
+};
 use sqlite_items::Items;
 use std::alloc::Global;
 
 /// An expression, at most `room` high.
 #[tactic(auto, unfolding(crate::specs::StmtReaders::expr_at))]
-pub fn expr_at(alloc: Global, room: u32, rest: &mut &[Lexeme]) -> Result<ExprTree, SyntaxFault>
-    ensures { Agrees (λ x. (x, rest.new.now)) result (expr_at most_brackets room rest.old.now) }
+pub fn expr_at(alloc: Global, room: u32, rest: &mut Lexemes<'_>) -> Result<ExprTree, SyntaxFault>
+    ensures { Agrees (λ x. (x, rest.new)) result (expr_at most_brackets room rest.old) }
 {
-    let (Built { tree, .. }, following) = parse_level(alloc, MAX_BRACKETS, room, LOOSEST, rest)?;
-    *rest = following;
+    let Built { tree, .. } = parse_level(alloc, MAX_BRACKETS, room, LOOSEST, rest)?;
     Ok(tree.into_inner())
 }
 
@@ -27,17 +28,17 @@ fn with_arg(
     alloc: Global,
     room: u32,
     mut args: Exprs,
-    rest: &mut &[Lexeme],
+    rest: &mut Lexemes<'_>,
 ) -> Result<Exprs, SyntaxFault>
-    ensures { Agrees (λ x. (x, rest.new.now)) result (add_arg most_brackets room args rest.old.now) }
+    ensures { Agrees (λ x. (x, rest.new)) result (add_arg most_brackets room args rest.old) }
 {
     args.push(expr_at(alloc, room, rest)?)?;
     Ok(args)
 }
 
 #[tactic(auto, using(crate::proofs::Steps::turns))]
-fn all_args(alloc: Global, room: u32, rest: &mut &[Lexeme]) -> Result<Exprs, SyntaxFault>
-    ensures { Agrees (λ x. (x, rest.new.now)) result (all_separated (add_arg most_brackets room) [] rest.old.now) }
+fn all_args(alloc: Global, room: u32, rest: &mut Lexemes<'_>) -> Result<Exprs, SyntaxFault>
+    ensures { Agrees (λ x. (x, rest.new)) result (all_separated (add_arg most_brackets room) [] rest.old) }
 {
     let mut args = Items::new(alloc);
     for _ in 0..rest.len() + 1 {
@@ -50,8 +51,8 @@ fn all_args(alloc: Global, room: u32, rest: &mut &[Lexeme]) -> Result<Exprs, Syn
 }
 
 #[tactic(auto, unfolding(crate::specs::StmtReaders::args_at))]
-fn args_at(alloc: Global, room: u32, rest: &mut &[Lexeme]) -> Result<Exprs, SyntaxFault>
-    ensures { Agrees (λ x. (x, rest.new.now)) result (args_at most_brackets room rest.old.now) }
+fn args_at(alloc: Global, room: u32, rest: &mut Lexemes<'_>) -> Result<Exprs, SyntaxFault>
+    ensures { Agrees (λ x. (x, rest.new)) result (args_at most_brackets room rest.old) }
 {
     if begins_with(Mark::CloseParen, rest) {
         Ok(Items::new(alloc))
@@ -60,8 +61,8 @@ fn args_at(alloc: Global, room: u32, rest: &mut &[Lexeme]) -> Result<Exprs, Synt
     }
 }
 
-fn args_in_parens(alloc: Global, room: u32, rest: &mut &[Lexeme]) -> Result<Exprs, SyntaxFault>
-    ensures { Agrees (λ x. (x, rest.new.now)) result (args_in_parens most_brackets room rest.old.now) }
+fn args_in_parens(alloc: Global, room: u32, rest: &mut Lexemes<'_>) -> Result<Exprs, SyntaxFault>
+    ensures { Agrees (λ x. (x, rest.new)) result (args_in_parens most_brackets room rest.old) }
 {
     take(Mark::OpenParen, rest)?;
     let args = args_at(alloc, room, rest)?;
@@ -70,8 +71,8 @@ fn args_in_parens(alloc: Global, room: u32, rest: &mut &[Lexeme]) -> Result<Expr
 
 /// A call, whose arguments are at most `room` high.
 #[tactic(auto, unfolding(crate::specs::StmtReaders::call_at))]
-pub fn call_at(alloc: Global, room: u32, rest: &mut &[Lexeme]) -> Result<CallTree, SyntaxFault>
-    ensures { Agrees (λ x. (x, rest.new.now)) result (call_at most_brackets room rest.old.now) }
+pub fn call_at(alloc: Global, room: u32, rest: &mut Lexemes<'_>) -> Result<CallTree, SyntaxFault>
+    ensures { Agrees (λ x. (x, rest.new)) result (call_at most_brackets room rest.old) }
 {
     let name = name_at(rest)?;
     let args = args_in_parens(alloc, room, rest)?;
@@ -80,8 +81,12 @@ pub fn call_at(alloc: Global, room: u32, rest: &mut &[Lexeme]) -> Result<CallTre
 
 /// A condition in its parentheses.
 #[tactic(auto, unfolding(crate::specs::StmtReaders::condition_at))]
-pub fn condition_at(alloc: Global, room: u32, rest: &mut &[Lexeme]) -> Result<ExprTree, SyntaxFault>
-    ensures { Agrees (λ x. (x, rest.new.now)) result (condition_at most_brackets room rest.old.now) }
+pub fn condition_at(
+    alloc: Global,
+    room: u32,
+    rest: &mut Lexemes<'_>,
+) -> Result<ExprTree, SyntaxFault>
+    ensures { Agrees (λ x. (x, rest.new)) result (condition_at most_brackets room rest.old) }
 {
     take(Mark::OpenParen, rest)?;
     let cond = expr_at(alloc, room, rest)?;

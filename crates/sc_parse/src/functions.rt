@@ -8,20 +8,20 @@ ghost use Rattle.std.specs.Prelude.{◌≡◌, ◌+◌, [], length};
 
 use crate::calls::expr_at;
 use crate::heads::head_at;
-use crate::lookahead::{first_line, is_base, skip, take};
+use crate::lookahead::{is_base, skip};
 use crate::stmts::stmts_at;
 use crate::types::{Declarator, declarator_at};
 use sc_ast::{
     BaseTree, Decl, ExprTree, FunctionHead, FunctionTree, HeadTree, LocalTree, LocalTrees, TypeTree,
 };
 use sc_base::MAX_HEIGHT;
-use sc_parse_expr::{Lexeme, Mark, SyntaxFault, base_at, keyword_at, refused};
+use sc_parse_expr::{Lexemes, Mark, SyntaxFault, base_at, refused, take};
 use sqlite_items::Items;
 use std::alloc::Global;
 
 #[tactic(auto, unfolding(crate::specs::SectionReaders::value_at))]
-fn value_at(alloc: Global, rest: &mut &[Lexeme]) -> Result<Option<ExprTree>, SyntaxFault>
-    ensures { Agrees (λ x. (x, rest.new.now)) result (value_at most_brackets most_height rest.old.now) }
+fn value_at(alloc: Global, rest: &mut Lexemes<'_>) -> Result<Option<ExprTree>, SyntaxFault>
+    ensures { Agrees (λ x. (x, rest.new)) result (value_at most_brackets most_height rest.old) }
 {
     if skip(Mark::Equal, rest) {
         Ok(Some(expr_at(alloc, MAX_HEIGHT, rest)?))
@@ -35,9 +35,9 @@ fn local_at(
     alloc: Global,
     base: &BaseTree,
     line: u32,
-    rest: &mut &[Lexeme],
+    rest: &mut Lexemes<'_>,
 ) -> Result<LocalTree, SyntaxFault>
-    ensures { Agrees (λ x. (x, rest.new.now)) result (local_at most_brackets most_height base.now line rest.old.now) }
+    ensures { Agrees (λ x. (x, rest.new)) result (local_at most_brackets most_height base.now line rest.old) }
 {
     let Declarator {
         stars,
@@ -64,10 +64,10 @@ fn with_local(
     base: &BaseTree,
     line: u32,
     mut locals: LocalTrees,
-    rest: &mut &[Lexeme],
+    rest: &mut Lexemes<'_>,
 ) -> Result<LocalTrees, SyntaxFault>
-    ensures { Agrees (λ x. (x, rest.new.now)) result
-        (add_local most_brackets most_height base.now line locals rest.old.now) }
+    ensures { Agrees (λ x. (x, rest.new)) result
+        (add_local most_brackets most_height base.now line locals rest.old) }
 {
     locals.push(local_at(alloc, base, line, rest)?)?;
     Ok(locals)
@@ -79,10 +79,10 @@ fn with_locals(
     base: &BaseTree,
     line: u32,
     mut locals: LocalTrees,
-    rest: &mut &[Lexeme],
+    rest: &mut Lexemes<'_>,
 ) -> Result<LocalTrees, SyntaxFault>
-    ensures { Agrees (λ x. (x, rest.new.now)) result (all_separated
-        (add_local most_brackets most_height base.now line) locals rest.old.now) }
+    ensures { Agrees (λ x. (x, rest.new)) result (all_separated
+        (add_local most_brackets most_height base.now line) locals rest.old) }
 {
     for _ in 0..rest.len() + 1 {
         locals = with_local(alloc, base, line, locals, rest)?;
@@ -97,27 +97,27 @@ fn with_locals(
 fn local_line(
     alloc: Global,
     locals: LocalTrees,
-    rest: &mut &[Lexeme],
+    rest: &mut Lexemes<'_>,
 ) -> Result<LocalTrees, SyntaxFault>
-    ensures { Agrees (λ x. (x, rest.new.now)) result
-        (declaration_at (add_local most_brackets most_height) locals rest.old.now) }
+    ensures { Agrees (λ x. (x, rest.new)) result
+        (declaration_at (add_local most_brackets most_height) locals rest.old) }
 {
-    let line = first_line(rest);
+    let line = rest.line();
     let base = base_at(rest)?;
     let locals = with_locals(alloc, &base, line, locals, rest)?;
     take(Mark::Semicolon, rest)?;
     Ok(locals)
 }
 
-fn no_base(rest: &[Lexeme]) -> bool
+fn no_base(rest: &Lexemes<'_>) -> bool
     ensures { result ≡ no_base rest.now }
 {
-    !is_base(keyword_at(rest))
+    !is_base(rest.keyword())
 }
 
 #[tactic(auto, using(crate::proofs::Steps::groups))]
-fn locals_at(alloc: Global, rest: &mut &[Lexeme]) -> Result<LocalTrees, SyntaxFault>
-    ensures { Agrees (λ x. (x, rest.new.now)) result (locals_at most_brackets most_height rest.old.now) }
+fn locals_at(alloc: Global, rest: &mut Lexemes<'_>) -> Result<LocalTrees, SyntaxFault>
+    ensures { Agrees (λ x. (x, rest.new)) result (locals_at most_brackets most_height rest.old) }
 {
     let mut locals = Items::new(alloc);
     for _ in 0..rest.len() + 1 {
@@ -131,7 +131,11 @@ fn locals_at(alloc: Global, rest: &mut &[Lexeme]) -> Result<LocalTrees, SyntaxFa
 
 // The head as that of a function, refused before these lexemes where a parameter has no name.
 #[tactic(auto, using(crate::proofs::Naming::names))]
-fn named_head(alloc: Global, head: &HeadTree, rest: &[Lexeme]) -> Result<FunctionHead, SyntaxFault>
+fn named_head(
+    alloc: Global,
+    head: &HeadTree,
+    rest: &Lexemes<'_>,
+) -> Result<FunctionHead, SyntaxFault>
     ensures { Agrees (λ x. x) result (named_head head.now) }
 {
     match head.named(alloc) {
@@ -145,14 +149,14 @@ fn named_head(alloc: Global, head: &HeadTree, rest: &[Lexeme]) -> Result<Functio
 fn body_at(
     alloc: Global,
     head: FunctionHead,
-    rest: &mut &[Lexeme],
+    rest: &mut Lexemes<'_>,
 ) -> Result<FunctionTree, SyntaxFault>
-    ensures { Agrees (λ x. (x, rest.new.now)) result (body_at most_brackets most_height head rest.old.now) }
+    ensures { Agrees (λ x. (x, rest.new)) result (body_at most_brackets most_height head rest.old) }
 {
     take(Mark::OpenCurly, rest)?;
     let locals = locals_at(alloc, rest)?;
     let body = stmts_at(alloc, MAX_HEIGHT, rest)?;
-    let close_line = first_line(rest);
+    let close_line = rest.line();
     take(Mark::CloseCurly, rest)?;
     Ok(FunctionTree {
         head,
@@ -163,15 +167,15 @@ fn body_at(
 }
 
 #[tactic(auto, unfolding(crate::specs::SectionReaders::function_at))]
-fn function_at(alloc: Global, head: &HeadTree, rest: &mut &[Lexeme]) -> Result<Decl, SyntaxFault>
-    ensures { Agrees (λ x. (x, rest.new.now)) result (function_at most_brackets most_height head.now rest.old.now) }
+fn function_at(alloc: Global, head: &HeadTree, rest: &mut Lexemes<'_>) -> Result<Decl, SyntaxFault>
+    ensures { Agrees (λ x. (x, rest.new)) result (function_at most_brackets most_height head.now rest.old) }
 {
     let named = named_head(alloc, head, rest)?;
     Ok(Decl::Function(body_at(alloc, named, rest)?))
 }
 
-fn past_head(alloc: Global, head: HeadTree, rest: &mut &[Lexeme]) -> Result<Decl, SyntaxFault>
-    ensures { Agrees (λ x. (x, rest.new.now)) result (past_head most_brackets most_height head rest.old.now) }
+fn past_head(alloc: Global, head: HeadTree, rest: &mut Lexemes<'_>) -> Result<Decl, SyntaxFault>
+    ensures { Agrees (λ x. (x, rest.new)) result (past_head most_brackets most_height head rest.old) }
 {
     if skip(Mark::Semicolon, rest) {
         Ok(Decl::Proto(head))
@@ -182,8 +186,8 @@ fn past_head(alloc: Global, head: HeadTree, rest: &mut &[Lexeme]) -> Result<Decl
 
 /// A prototype or a function.
 #[tactic(auto, unfolding(crate::specs::SectionReaders::headed_at))]
-pub fn headed_at(alloc: Global, rest: &mut &[Lexeme]) -> Result<Decl, SyntaxFault>
-    ensures { Agrees (λ x. (x, rest.new.now)) result (headed_at most_brackets most_height rest.old.now) }
+pub fn headed_at(alloc: Global, rest: &mut Lexemes<'_>) -> Result<Decl, SyntaxFault>
+    ensures { Agrees (λ x. (x, rest.new)) result (headed_at most_brackets most_height rest.old) }
 {
     let head = head_at(alloc, rest)?;
     past_head(alloc, head, rest)

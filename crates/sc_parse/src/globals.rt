@@ -5,22 +5,22 @@ ghost use Rattle.sc_parse.specs.Prelude.{const_at, consts_at, declaration_at, gl
 ghost use Rattle.sc_parse.specs.Prelude.{literal_at, one_at, past_comma, separated};
 ghost use Rattle.std.specs.Prelude.{◌≡◌, ◌≤◌, ◌+◌, [], length};
 
-use crate::lookahead::{first_line, integer_by, skip, skip_inner_comma, take};
+use crate::lookahead::{integer_by, skip, skip_inner_comma};
 use crate::types::{Declarator, declarator_at};
 use sc_ast::{BaseTree, ConstTree, Decl, Decls, GlobalTree, InitTree, NonEmpty, TypeTree};
-use sc_parse_expr::{Lexeme, Mark, SyntaxFault, base_at, refused};
+use sc_parse_expr::{Lexemes, Mark, SyntaxFault, base_at, refused, take};
 use sqlite_items::Items;
 use std::alloc::Global;
 
-fn literal_at(negative: bool, rest: &mut &[Lexeme]) -> Result<ConstTree, SyntaxFault>
-    ensures { Agrees (λ x. (x, rest.new.now)) result (literal_at negative rest.old.now) }
+fn literal_at(negative: bool, rest: &mut Lexemes<'_>) -> Result<ConstTree, SyntaxFault>
+    ensures { Agrees (λ x. (x, rest.new)) result (literal_at negative rest.old) }
 {
-    let [first, following @ ..] = *rest else {
+    let Some(first) = rest.first() else {
         return Err(refused(rest));
     };
     match integer_by(&first.symbol) {
         Some(literal) => {
-            *rest = following;
+            rest.advance();
             Ok(ConstTree { negative, literal })
         }
         None => Err(refused(rest)),
@@ -28,8 +28,8 @@ fn literal_at(negative: bool, rest: &mut &[Lexeme]) -> Result<ConstTree, SyntaxF
 }
 
 #[tactic(auto, unfolding(crate::specs::Readers::const_at))]
-fn const_at(rest: &mut &[Lexeme]) -> Result<ConstTree, SyntaxFault>
-    ensures { Agrees (λ x. (x, rest.new.now)) result (const_at rest.old.now) }
+fn const_at(rest: &mut Lexemes<'_>) -> Result<ConstTree, SyntaxFault>
+    ensures { Agrees (λ x. (x, rest.new)) result (const_at rest.old) }
 {
     if skip(Mark::Minus, rest) {
         literal_at(true, rest)
@@ -41,17 +41,17 @@ fn const_at(rest: &mut &[Lexeme]) -> Result<ConstTree, SyntaxFault>
 #[tactic(auto, unfolding(crate::specs::Readers::adds))]
 fn with_const(
     mut values: Items<ConstTree>,
-    rest: &mut &[Lexeme],
+    rest: &mut Lexemes<'_>,
 ) -> Result<Items<ConstTree>, SyntaxFault>
-    ensures { Agrees (λ x. (x, rest.new.now)) result (adds const_at values rest.old.now) }
+    ensures { Agrees (λ x. (x, rest.new)) result (adds const_at values rest.old) }
 {
     values.push(const_at(rest)?)?;
     Ok(values)
 }
 
 #[tactic(auto, using(crate::proofs::Steps::turns))]
-fn all_consts(alloc: Global, rest: &mut &[Lexeme]) -> Result<Items<ConstTree>, SyntaxFault>
-    ensures { Agrees (λ x. (x, rest.new.now)) result (all_consts rest.old.now) }
+fn all_consts(alloc: Global, rest: &mut Lexemes<'_>) -> Result<Items<ConstTree>, SyntaxFault>
+    ensures { Agrees (λ x. (x, rest.new)) result (all_consts rest.old) }
 {
     let mut values = Items::new(alloc);
     for _ in 0..rest.len() + 1 {
@@ -63,16 +63,16 @@ fn all_consts(alloc: Global, rest: &mut &[Lexeme]) -> Result<Items<ConstTree>, S
     Err(refused(rest))
 }
 
-fn past_comma(rest: &mut &[Lexeme])
-    ensures { rest.new.now ≡ past_comma rest.old.now }
+fn past_comma(rest: &mut Lexemes<'_>)
+    ensures { rest.new ≡ past_comma rest.old }
 {
     let _found = skip(Mark::Comma, rest);
 }
 
 // The constants after `{`, and the `}`.
 #[tactic(auto, unfolding(crate::specs::Readers::consts_at))]
-fn consts_at(alloc: Global, rest: &mut &[Lexeme]) -> Result<InitTree, SyntaxFault>
-    ensures { Agrees (λ x. (x, rest.new.now)) result (consts_at rest.old.now) }
+fn consts_at(alloc: Global, rest: &mut Lexemes<'_>) -> Result<InitTree, SyntaxFault>
+    ensures { Agrees (λ x. (x, rest.new)) result (consts_at rest.old) }
 {
     let values = all_consts(alloc, rest)?;
     past_comma(rest);
@@ -83,16 +83,16 @@ fn consts_at(alloc: Global, rest: &mut &[Lexeme]) -> Result<InitTree, SyntaxFaul
     }
 }
 
-fn one_at(rest: &mut &[Lexeme]) -> Result<InitTree, SyntaxFault>
-    ensures { Agrees (λ x. (x, rest.new.now)) result (one_at rest.old.now) }
+fn one_at(rest: &mut Lexemes<'_>) -> Result<InitTree, SyntaxFault>
+    ensures { Agrees (λ x. (x, rest.new)) result (one_at rest.old) }
 {
     Ok(InitTree::One(const_at(rest)?))
 }
 
 // What follows `=`.
 #[tactic(auto, unfolding(crate::specs::Readers::initialiser_at))]
-fn initialiser_at(alloc: Global, rest: &mut &[Lexeme]) -> Result<InitTree, SyntaxFault>
-    ensures { Agrees (λ x. (x, rest.new.now)) result (initialiser_at rest.old.now) }
+fn initialiser_at(alloc: Global, rest: &mut Lexemes<'_>) -> Result<InitTree, SyntaxFault>
+    ensures { Agrees (λ x. (x, rest.new)) result (initialiser_at rest.old) }
 {
     if skip(Mark::OpenCurly, rest) {
         consts_at(alloc, rest)
@@ -102,8 +102,8 @@ fn initialiser_at(alloc: Global, rest: &mut &[Lexeme]) -> Result<InitTree, Synta
 }
 
 #[tactic(auto, unfolding(crate::specs::Readers::init_at))]
-fn init_at(alloc: Global, rest: &mut &[Lexeme]) -> Result<InitTree, SyntaxFault>
-    ensures { Agrees (λ x. (x, rest.new.now)) result (init_at rest.old.now) }
+fn init_at(alloc: Global, rest: &mut Lexemes<'_>) -> Result<InitTree, SyntaxFault>
+    ensures { Agrees (λ x. (x, rest.new)) result (init_at rest.old) }
 {
     if skip(Mark::Equal, rest) {
         initialiser_at(alloc, rest)
@@ -117,9 +117,9 @@ fn global_at(
     alloc: Global,
     base: &BaseTree,
     line: u32,
-    rest: &mut &[Lexeme],
+    rest: &mut Lexemes<'_>,
 ) -> Result<Decl, SyntaxFault>
-    ensures { Agrees (λ x. (x, rest.new.now)) result (global_at base.now line rest.old.now) }
+    ensures { Agrees (λ x. (x, rest.new)) result (global_at base.now line rest.old) }
 {
     let Declarator {
         stars,
@@ -146,9 +146,9 @@ fn with_global(
     base: &BaseTree,
     line: u32,
     mut decls: Decls,
-    rest: &mut &[Lexeme],
+    rest: &mut Lexemes<'_>,
 ) -> Result<Decls, SyntaxFault>
-    ensures { Agrees (λ x. (x, rest.new.now)) result (add_global base.now line decls rest.old.now) }
+    ensures { Agrees (λ x. (x, rest.new)) result (add_global base.now line decls rest.old) }
 {
     decls.push(global_at(alloc, base, line, rest)?)?;
     Ok(decls)
@@ -160,9 +160,9 @@ fn with_globals(
     base: &BaseTree,
     line: u32,
     mut decls: Decls,
-    rest: &mut &[Lexeme],
+    rest: &mut Lexemes<'_>,
 ) -> Result<Decls, SyntaxFault>
-    ensures { Agrees (λ x. (x, rest.new.now)) result (all_separated (add_global base.now line) decls rest.old.now) }
+    ensures { Agrees (λ x. (x, rest.new)) result (all_separated (add_global base.now line) decls rest.old) }
 {
     for _ in 0..rest.len() + 1 {
         decls = with_global(alloc, base, line, decls, rest)?;
@@ -175,10 +175,10 @@ fn with_globals(
 
 /// A declaration of globals, added to the declarations before.
 #[tactic(auto, unfolding(crate::specs::Readers::declaration_at))]
-pub fn globals_at(alloc: Global, decls: Decls, rest: &mut &[Lexeme]) -> Result<Decls, SyntaxFault>
-    ensures { Agrees (λ x. (x, rest.new.now)) result (declaration_at add_global decls rest.old.now) }
+pub fn globals_at(alloc: Global, decls: Decls, rest: &mut Lexemes<'_>) -> Result<Decls, SyntaxFault>
+    ensures { Agrees (λ x. (x, rest.new)) result (declaration_at add_global decls rest.old) }
 {
-    let line = first_line(rest);
+    let line = rest.line();
     let base = base_at(rest)?;
     let decls = with_globals(alloc, &base, line, decls, rest)?;
     take(Mark::Semicolon, rest)?;

@@ -1,37 +1,35 @@
 //! Parameters, and the heads of functions and prototypes.
 
-ghost use Rattle.sc_parse.specs.Prelude.{Agrees, adds, all_separated, begins_head, head_at, is_void, keyword_at};
-ghost use Rattle.sc_parse.specs.Prelude.{name_at, param_at, params_at, params_in_parens, past_base, result_at};
+ghost use Rattle.sc_parse.specs.Prelude.{Agrees, adds, all_separated, begins_call, begins_head, head_at, is_void};
+ghost use Rattle.sc_parse.specs.Prelude.{keyword_at};
+ghost use Rattle.sc_parse.specs.Prelude.{name_at, param_at, params_at, params_in_parens, past_base, past_stars};
+ghost use Rattle.sc_parse.specs.Prelude.{result_at};
 ghost use Rattle.sc_parse.specs.Prelude.{star_count};
 ghost use Rattle.std.specs.Prelude.{◌≡◌, ℕ, ◌+◌, List, [], length, drop, true, false, None, Some};
 
-use crate::lookahead::{begins_call, first_line, is_void, past, skip, take};
+use crate::lookahead::{begins_call, is_void, skip};
 use sc_ast::{HeadTree, Ident, ParamTree, ParamTrees, TypeName};
 use sc_parse_expr::{
-    Keyword, Lexeme, Mark, SyntaxFault, keyword_at, name_at, name_by, past_int, refused,
-    star_count, type_name_at,
+    Keyword, Lexemes, Mark, SyntaxFault, name_at, refused, skip_int, take, take_stars, type_name_at,
 };
 use sqlite_items::Items;
 use std::alloc::Global;
 
 // The name of a parameter, if one stands there.
-fn maybe_name(rest: &mut &[Lexeme]) -> Option<Ident>
-    ensures some { (name : List ℕ) → result ≡ Some name → name_at rest.old.now ≡ Some (name, rest.new.now) }
-    ensures none { result ≡ None → name_at rest.old.now ≡ None }
-    ensures same { result ≡ None → rest.new.now ≡ rest.old.now }
+fn maybe_name(rest: &mut Lexemes<'_>) -> Option<Ident>
+    ensures some { (name : List ℕ) → result ≡ Some name → name_at rest.old ≡ Some (name, rest.new) }
+    ensures none { result ≡ None → name_at rest.old ≡ None }
+    ensures same { result ≡ None → rest.new ≡ rest.old }
 {
-    let [first, following @ ..] = *rest else {
-        return None;
-    };
-    let name = name_by(&first.symbol)?;
-    *rest = following;
+    let name = rest.ident()?;
+    rest.advance();
     Some(name)
 }
 
 // One more parameter: its type, and its name if one stands there.
 #[tactic(auto, unfolding(crate::specs::Readers::adds, crate::specs::Readers::param_at))]
-fn with_param(mut params: ParamTrees, rest: &mut &[Lexeme]) -> Result<ParamTrees, SyntaxFault>
-    ensures { Agrees (λ x. (x, rest.new.now)) result (adds param_at params rest.old.now) }
+fn with_param(mut params: ParamTrees, rest: &mut Lexemes<'_>) -> Result<ParamTrees, SyntaxFault>
+    ensures { Agrees (λ x. (x, rest.new)) result (adds param_at params rest.old) }
 {
     let TypeName { base, stars } = type_name_at(rest)?;
     let name = maybe_name(rest);
@@ -41,8 +39,8 @@ fn with_param(mut params: ParamTrees, rest: &mut &[Lexeme]) -> Result<ParamTrees
 }
 
 #[tactic(auto, using(crate::proofs::Steps::turns))]
-fn all_params(alloc: Global, rest: &mut &[Lexeme]) -> Result<ParamTrees, SyntaxFault>
-    ensures { Agrees (λ x. (x, rest.new.now)) result (all_separated (adds param_at) [] rest.old.now) }
+fn all_params(alloc: Global, rest: &mut Lexemes<'_>) -> Result<ParamTrees, SyntaxFault>
+    ensures { Agrees (λ x. (x, rest.new)) result (all_separated (adds param_at) [] rest.old) }
 {
     let mut params = Items::new(alloc);
     for _ in 0..rest.len() + 1 {
@@ -55,21 +53,21 @@ fn all_params(alloc: Global, rest: &mut &[Lexeme]) -> Result<ParamTrees, SyntaxF
 }
 
 // Goes past `void`, if the lexemes begin with it.
-fn skip_void(rest: &mut &[Lexeme]) -> bool
-    ensures value { result ≡ is_void (keyword_at rest.old.now) }
-    ensures found { result ≡ true → rest.new.now ≡ drop 1 rest.old.now }
-    ensures same { result ≡ false → rest.new.now ≡ rest.old.now }
+fn skip_void(rest: &mut Lexemes<'_>) -> bool
+    ensures value { result ≡ is_void (keyword_at rest.old) }
+    ensures found { result ≡ true → rest.new ≡ drop 1 rest.old }
+    ensures same { result ≡ false → rest.new ≡ rest.old }
 {
-    let found = is_void(keyword_at(rest));
+    let found = is_void(rest.keyword());
     if found {
-        *rest = &rest[1..];
+        rest.advance();
     }
     found
 }
 
 #[tactic(auto, unfolding(crate::specs::Readers::params_at))]
-fn params_at(alloc: Global, rest: &mut &[Lexeme]) -> Result<ParamTrees, SyntaxFault>
-    ensures { Agrees (λ x. (x, rest.new.now)) result (params_at rest.old.now) }
+fn params_at(alloc: Global, rest: &mut Lexemes<'_>) -> Result<ParamTrees, SyntaxFault>
+    ensures { Agrees (λ x. (x, rest.new)) result (params_at rest.old) }
 {
     if skip_void(rest) {
         Ok(Items::new(alloc))
@@ -79,8 +77,8 @@ fn params_at(alloc: Global, rest: &mut &[Lexeme]) -> Result<ParamTrees, SyntaxFa
 }
 
 #[tactic(auto, unfolding(crate::specs::Readers::result_at))]
-fn result_at(rest: &mut &[Lexeme]) -> Result<Option<TypeName>, SyntaxFault>
-    ensures { Agrees (λ x. (x, rest.new.now)) result (result_at rest.old.now) }
+fn result_at(rest: &mut Lexemes<'_>) -> Result<Option<TypeName>, SyntaxFault>
+    ensures { Agrees (λ x. (x, rest.new)) result (result_at rest.old) }
 {
     if skip_void(rest) {
         Ok(None)
@@ -89,8 +87,8 @@ fn result_at(rest: &mut &[Lexeme]) -> Result<Option<TypeName>, SyntaxFault>
     }
 }
 
-fn params_in_parens(alloc: Global, rest: &mut &[Lexeme]) -> Result<ParamTrees, SyntaxFault>
-    ensures { Agrees (λ x. (x, rest.new.now)) result (params_in_parens rest.old.now) }
+fn params_in_parens(alloc: Global, rest: &mut Lexemes<'_>) -> Result<ParamTrees, SyntaxFault>
+    ensures { Agrees (λ x. (x, rest.new)) result (params_in_parens rest.old) }
 {
     take(Mark::OpenParen, rest)?;
     let params = params_at(alloc, rest)?;
@@ -100,10 +98,10 @@ fn params_in_parens(alloc: Global, rest: &mut &[Lexeme]) -> Result<ParamTrees, S
 
 /// The head of a function or a prototype.
 #[tactic(auto, unfolding(crate::specs::Readers::head_at))]
-pub fn head_at(alloc: Global, rest: &mut &[Lexeme]) -> Result<HeadTree, SyntaxFault>
-    ensures { Agrees (λ x. (x, rest.new.now)) result (head_at rest.old.now) }
+pub fn head_at(alloc: Global, rest: &mut Lexemes<'_>) -> Result<HeadTree, SyntaxFault>
+    ensures { Agrees (λ x. (x, rest.new)) result (head_at rest.old) }
 {
-    let line = first_line(rest);
+    let line = rest.line();
     let result = result_at(rest)?;
     let name = name_at(rest)?;
     let params = params_in_parens(alloc, rest)?;
@@ -115,30 +113,33 @@ pub fn head_at(alloc: Global, rest: &mut &[Lexeme]) -> Result<HeadTree, SyntaxFa
     })
 }
 
-fn past_base(rest: &[Lexeme]) -> &[Lexeme]
-    ensures { result.now ≡ past_base rest.now }
+fn skip_base(rest: &mut Lexemes<'_>)
+    ensures { rest.new ≡ past_base rest.old }
 {
-    let [_, following @ ..] = rest else {
-        return rest;
-    };
-    match keyword_at(rest) {
-        Some(Keyword::Signed) => past_int(following),
-        Some(Keyword::Unsigned) => past_int(following),
-        Some(Keyword::Struct) => past(following),
-        _ => following,
+    let word = rest.keyword();
+    rest.advance();
+    match word {
+        Some(Keyword::Signed) => skip_int(rest),
+        Some(Keyword::Unsigned) => skip_int(rest),
+        Some(Keyword::Struct) => rest.advance(),
+        _ => {}
     }
 }
 
-fn past_stars(rest: &[Lexeme]) -> &[Lexeme]
-    ensures { result.now ≡ drop (star_count rest.now) rest.now }
+// Whether a call begins after a base and any `*`.
+fn calls_past_base(rest: &Lexemes<'_>) -> bool
+    ensures { result ≡ begins_call (past_stars (past_base rest.now)) }
 {
-    &rest[star_count(rest)..]
+    let mut rest = rest.again();
+    skip_base(&mut rest);
+    take_stars(&mut rest);
+    begins_call(&rest)
 }
 
 /// Whether the lexemes begin with the head of a function or a prototype.
 #[tactic(auto, unfolding(crate::specs::Readers::begins_head))]
-pub fn begins_head(rest: &[Lexeme]) -> bool
+pub fn begins_head(rest: &Lexemes<'_>) -> bool
     ensures { result ≡ begins_head rest.now }
 {
-    is_void(keyword_at(rest)) || begins_call(past_stars(past_base(rest)))
+    is_void(rest.keyword()) || calls_past_base(rest)
 }

@@ -8,7 +8,7 @@ ghost use Rattle.std.specs.Prelude.{◌≡◌, ◌<◌};
 use crate::calls::condition_at;
 use sc_ast::{ExprTree, PlaceTree, SimpleKind, TypeName};
 use sc_base::BinaryOp;
-use sc_parse_expr::{Keyword, Lexeme, SyntaxFault, refused_before};
+use sc_parse_expr::{Keyword, Lexemes, SyntaxFault, refused_before};
 use std::alloc::Global;
 
 /// Whether the word is `malloc`.
@@ -74,10 +74,10 @@ pub fn allocated_at(
     alloc: Global,
     room: u32,
     place: PlaceTree,
-    rest: &mut &[Lexeme],
+    rest: &mut Lexemes<'_>,
 ) -> Result<SimpleKind, SyntaxFault>
     requires { room < 4294967295 }
-    ensures { Agrees (λ x. (x, rest.new.now)) result (allocated_at most_brackets room place rest.old.now) }
+    ensures { Agrees (λ x. (x, rest.new)) result (allocated_at most_brackets room place rest.old) }
 {
     let argument = condition_at(alloc, room + 1, rest)?;
     match malloc_of(argument) {
@@ -93,9 +93,9 @@ pub fn allocated_at(
 pub fn free_statement(
     alloc: Global,
     room: u32,
-    rest: &mut &[Lexeme],
+    rest: &mut Lexemes<'_>,
 ) -> Result<SimpleKind, SyntaxFault>
-    ensures { Agrees (λ x. (x, rest.new.now)) result (free_statement most_brackets room rest.old.now) }
+    ensures { Agrees (λ x. (x, rest.new)) result (free_statement most_brackets room rest.old) }
 {
     Ok(SimpleKind::Free(condition_at(alloc, room, rest)?))
 }

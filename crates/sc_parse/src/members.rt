@@ -5,10 +5,10 @@ ghost use Rattle.sc_parse.specs.Prelude.{member_at, members_at, members_in_brace
 ghost use Rattle.std.specs.Prelude.{◌≡◌, ◌≤◌, ◌+◌, length};
 ghost use Rattle.sc_parse_expr.specs.declared.mark.Mark.TheVariants.{CloseCurly};
 
-use crate::lookahead::{begins_with, first_line, skip, take};
+use crate::lookahead::skip;
 use crate::types::{Declarator, declarator_at};
 use sc_ast::{BaseTree, MemberTree, MemberTrees, NonEmpty, StructTree, TypeTree};
-use sc_parse_expr::{Lexeme, Mark, SyntaxFault, base_at, name_at, refused};
+use sc_parse_expr::{Lexemes, Mark, SyntaxFault, base_at, begins_with, name_at, refused, take};
 use sqlite_items::Items;
 use std::alloc::Global;
 
@@ -18,9 +18,9 @@ type Members = Items<MemberTree>;
 fn with_member(
     base: &BaseTree,
     mut members: Members,
-    rest: &mut &[Lexeme],
+    rest: &mut Lexemes<'_>,
 ) -> Result<Members, SyntaxFault>
-    ensures { Agrees (λ x. (x, rest.new.now)) result (adds (member_at base.now) members rest.old.now) }
+    ensures { Agrees (λ x. (x, rest.new)) result (adds (member_at base.now) members rest.old) }
 {
     let Declarator {
         stars,
@@ -41,9 +41,9 @@ fn with_member(
 fn with_members(
     base: &BaseTree,
     mut members: Members,
-    rest: &mut &[Lexeme],
+    rest: &mut Lexemes<'_>,
 ) -> Result<Members, SyntaxFault>
-    ensures { Agrees (λ x. (x, rest.new.now)) result (all_separated (adds (member_at base.now)) members rest.old.now) }
+    ensures { Agrees (λ x. (x, rest.new)) result (all_separated (adds (member_at base.now)) members rest.old) }
 {
     for _ in 0..rest.len() + 1 {
         members = with_member(base, members, rest)?;
@@ -56,8 +56,8 @@ fn with_members(
 
 // One declaration of members, added to the members before.
 #[tactic(auto, unfolding(crate::specs::Readers::declaration_at))]
-fn member_line(members: Members, rest: &mut &[Lexeme]) -> Result<Members, SyntaxFault>
-    ensures { Agrees (λ x. (x, rest.new.now)) result (declaration_at add_member members rest.old.now) }
+fn member_line(members: Members, rest: &mut Lexemes<'_>) -> Result<Members, SyntaxFault>
+    ensures { Agrees (λ x. (x, rest.new)) result (declaration_at add_member members rest.old) }
 {
     let base = base_at(rest)?;
     let members = with_members(&base, members, rest)?;
@@ -66,9 +66,9 @@ fn member_line(members: Members, rest: &mut &[Lexeme]) -> Result<Members, Syntax
 }
 
 #[tactic(auto, using(crate::proofs::Steps::groups))]
-fn member_lines(mut members: Members, rest: &mut &[Lexeme]) -> Result<Members, SyntaxFault>
-    ensures { Agrees (λ x. (x, rest.new.now)) result (grouped (begins_with CloseCurly) (declaration_at add_member)
-        (length rest.old.now + 1) members rest.old.now) }
+fn member_lines(mut members: Members, rest: &mut Lexemes<'_>) -> Result<Members, SyntaxFault>
+    ensures { Agrees (λ x. (x, rest.new)) result (grouped (begins_with CloseCurly) (declaration_at add_member)
+        (length rest.old + 1) members rest.old) }
 {
     for _ in 0..rest.len() + 1 {
         if begins_with(Mark::CloseCurly, rest) {
@@ -80,8 +80,8 @@ fn member_lines(mut members: Members, rest: &mut &[Lexeme]) -> Result<Members, S
 }
 
 #[tactic(auto, unfolding(crate::specs::Readers::members_at))]
-fn members_at(alloc: Global, rest: &mut &[Lexeme]) -> Result<MemberTrees, SyntaxFault>
-    ensures { Agrees (λ x. (x, rest.new.now)) result (members_at rest.old.now) }
+fn members_at(alloc: Global, rest: &mut Lexemes<'_>) -> Result<MemberTrees, SyntaxFault>
+    ensures { Agrees (λ x. (x, rest.new)) result (members_at rest.old) }
 {
     let members = member_lines(Items::new(alloc), rest)?;
     match NonEmpty::new(members) {
@@ -90,8 +90,8 @@ fn members_at(alloc: Global, rest: &mut &[Lexeme]) -> Result<MemberTrees, Syntax
     }
 }
 
-fn members_in_braces(alloc: Global, rest: &mut &[Lexeme]) -> Result<MemberTrees, SyntaxFault>
-    ensures { Agrees (λ x. (x, rest.new.now)) result (members_in_braces rest.old.now) }
+fn members_in_braces(alloc: Global, rest: &mut Lexemes<'_>) -> Result<MemberTrees, SyntaxFault>
+    ensures { Agrees (λ x. (x, rest.new)) result (members_in_braces rest.old) }
 {
     take(Mark::OpenCurly, rest)?;
     let members = members_at(alloc, rest)?;
@@ -101,12 +101,12 @@ fn members_in_braces(alloc: Global, rest: &mut &[Lexeme]) -> Result<MemberTrees,
 
 /// A struct, where the lexemes begin with its first word.
 #[tactic(auto, unfolding(crate::specs::Readers::struct_at))]
-pub fn struct_at(alloc: Global, rest: &mut &[Lexeme]) -> Result<StructTree, SyntaxFault>
-    requires { 1 ≤ length rest.old.now }
-    ensures { Agrees (λ x. (x, rest.new.now)) result (struct_at rest.old.now) }
+pub fn struct_at(alloc: Global, rest: &mut Lexemes<'_>) -> Result<StructTree, SyntaxFault>
+    requires { 1 ≤ length rest.old }
+    ensures { Agrees (λ x. (x, rest.new)) result (struct_at rest.old) }
 {
-    let line = first_line(rest);
-    *rest = &rest[1..];
+    let line = rest.line();
+    rest.advance();
     let name = name_at(rest)?;
     let members = members_in_braces(alloc, rest)?;
     take(Mark::Semicolon, rest)?;

@@ -9,11 +9,11 @@ use crate::brackets::first_excess;
 use crate::section::section_at;
 use sc_ast::SectionTree;
 use sc_lex::{Phase, Refusal, Section, TextFault, Token, slices_in_order};
-use sc_parse_expr::{Lexeme, SyntaxFault, lexemes};
+use sc_parse_expr::{Lexemes, SyntaxFault};
 use std::alloc::Global;
 
 // The line in the whole text of a lexeme, the last where fewer stand there, of a section that begins in this line.
-fn line_of(line: u32, lexemes: &[Lexeme], at: usize) -> u32
+fn line_of(line: u32, lexemes: &Lexemes<'_>, at: usize) -> u32
     ensures { 0 < length lexemes.now → Any (λ t. result ≡ whole_line line t) lexemes.now }
 {
     let last = lexemes.len().saturating_sub(1);
@@ -23,7 +23,7 @@ fn line_of(line: u32, lexemes: &[Lexeme], at: usize) -> u32
     }
 }
 
-fn refused_at(line: u32, lexemes: &[Lexeme], at: usize) -> Refusal
+fn refused_at(line: u32, lexemes: &Lexemes<'_>, at: usize) -> Refusal
     ensures phase { result.phase ≡ Syntax }
     ensures line { 0 < length lexemes.now → Any (λ t. result.line ≡ whole_line line t) lexemes.now }
 {
@@ -34,14 +34,14 @@ fn refused_at(line: u32, lexemes: &[Lexeme], at: usize) -> Refusal
 }
 
 #[tactic(auto, using(crate::proofs::Trees::trees))]
-fn parse_lexemes(alloc: Global, line: u32, lexemes: &[Lexeme]) -> Result<SectionTree, TextFault>
+fn parse_lexemes(alloc: Global, line: u32, lexemes: &Lexemes<'_>) -> Result<SectionTree, TextFault>
     ensures parses { Parses line lexemes.now result }
     ensures phase { (refusal : Refusal) → IsErrOf result (TextFault.Refused refusal) → refusal.phase ≡ Syntax }
     ensures line { (refusal : Refusal) → IsErrOf result (TextFault.Refused refusal) → 0 < length lexemes.now →
         Any (λ t. refusal.line ≡ whole_line line t) lexemes.now }
 {
     let excess = first_excess(lexemes);
-    let mut rest = lexemes;
+    let mut rest = lexemes.again();
     let tree = match section_at(alloc, line, &mut rest) {
         Ok(tree) => tree,
         Err(SyntaxFault::Refused { left }) => {
@@ -77,6 +77,6 @@ pub fn parse(
         Any (λ token. refusal.line ≡ line_after section.now.line (token.line - 1)) tokens.now }
 {
     slices_in_order();
-    let lexemes = lexemes(alloc, section.bytes, tokens)?;
-    parse_lexemes(alloc, section.line, lexemes.as_slice())
+    let lexemes = Lexemes::new(section.bytes, tokens);
+    parse_lexemes(alloc, section.line, &lexemes)
 }

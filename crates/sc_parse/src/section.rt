@@ -11,11 +11,10 @@ ghost use Rattle.sc_parse_expr.specs.declared.lexeme.Lexeme.{Lexeme};
 use crate::functions::headed_at;
 use crate::globals::globals_at;
 use crate::heads::begins_head;
-use crate::lookahead::{begins_with, past};
 use crate::members::struct_at;
 use sc_ast::{Decl, Decls, ExportLine, ExportLines, ImportLine, ImportLines, SectionTree};
 use sc_base::Name;
-use sc_parse_expr::{Keyword, Lexeme, Mark, Symbol, SyntaxFault, keyword_at, name_by, refused};
+use sc_parse_expr::{Keyword, Lexemes, Mark, Symbol, SyntaxFault, begins_with, refused};
 use sqlite_items::Items;
 use std::alloc::{AllocError, Global};
 
@@ -33,16 +32,10 @@ struct Directives {
     imports: ImportLines,
 }
 
-fn names_struct(rest: &[Lexeme]) -> bool
+fn names_struct(rest: &Lexemes<'_>) -> bool
     ensures { result ≡ names_struct rest.now }
 {
-    let [first, following @ ..] = rest else {
-        return false;
-    };
-    match name_by(&first.symbol) {
-        Some(_) => begins_with(Mark::OpenCurly, following),
-        None => false,
-    }
+    rest.begins_ident() && begins_with(Mark::OpenCurly, &rest.past())
 }
 
 fn is_struct_word(word: Option<Keyword>) -> bool
@@ -52,33 +45,41 @@ fn is_struct_word(word: Option<Keyword>) -> bool
     matches!(word, Some(Keyword::Struct))
 }
 
-fn begins_struct(rest: &[Lexeme]) -> bool
+fn begins_struct(rest: &Lexemes<'_>) -> bool
     ensures value { result ≡ begins_struct rest.now }
     ensures some { result ≡ true → 1 ≤ length rest.now }
 {
-    is_struct_word(keyword_at(rest)) && names_struct(past(rest))
+    is_struct_word(rest.keyword()) && names_struct(&rest.past())
 }
 
 #[tactic(auto, unfolding(crate::specs::Readers::adds, crate::specs::SectionReaders::struct_decl_at))]
-fn with_struct(alloc: Global, mut decls: Decls, rest: &mut &[Lexeme]) -> Result<Decls, SyntaxFault>
-    requires { 1 ≤ length rest.old.now }
-    ensures { Agrees (λ x. (x, rest.new.now)) result (adds struct_decl_at decls rest.old.now) }
+fn with_struct(
+    alloc: Global,
+    mut decls: Decls,
+    rest: &mut Lexemes<'_>,
+) -> Result<Decls, SyntaxFault>
+    requires { 1 ≤ length rest.old }
+    ensures { Agrees (λ x. (x, rest.new)) result (adds struct_decl_at decls rest.old) }
 {
     decls.push(Decl::Struct(struct_at(alloc, rest)?))?;
     Ok(decls)
 }
 
 #[tactic(auto, unfolding(crate::specs::Readers::adds))]
-fn with_headed(alloc: Global, mut decls: Decls, rest: &mut &[Lexeme]) -> Result<Decls, SyntaxFault>
-    ensures { Agrees (λ x. (x, rest.new.now)) result (adds (headed_at most_brackets most_height) decls rest.old.now) }
+fn with_headed(
+    alloc: Global,
+    mut decls: Decls,
+    rest: &mut Lexemes<'_>,
+) -> Result<Decls, SyntaxFault>
+    ensures { Agrees (λ x. (x, rest.new)) result (adds (headed_at most_brackets most_height) decls rest.old) }
 {
     decls.push(headed_at(alloc, rest)?)?;
     Ok(decls)
 }
 
 #[tactic(auto, unfolding(crate::specs::SectionReaders::decl_at))]
-fn decl_at(alloc: Global, decls: Decls, rest: &mut &[Lexeme]) -> Result<Decls, SyntaxFault>
-    ensures { Agrees (λ x. (x, rest.new.now)) result (decl_at most_brackets most_height decls rest.old.now) }
+fn decl_at(alloc: Global, decls: Decls, rest: &mut Lexemes<'_>) -> Result<Decls, SyntaxFault>
+    ensures { Agrees (λ x. (x, rest.new)) result (decl_at most_brackets most_height decls rest.old) }
 {
     if begins_struct(rest) {
         with_struct(alloc, decls, rest)
@@ -89,22 +90,13 @@ fn decl_at(alloc: Global, decls: Decls, rest: &mut &[Lexeme]) -> Result<Decls, S
     }
 }
 
-fn is_empty(rest: &[Lexeme]) -> bool
-    ensures { result ≡ is_empty rest.now }
-{
-    match rest {
-        [] => true,
-        [_, ..] => false,
-    }
-}
-
 #[tactic(auto, using(crate::proofs::Steps::groups))]
-fn decls_at(alloc: Global, rest: &mut &[Lexeme]) -> Result<Decls, SyntaxFault>
-    ensures { Agrees (λ x. (x, rest.new.now)) result (decls_at most_brackets most_height rest.old.now) }
+fn decls_at(alloc: Global, rest: &mut Lexemes<'_>) -> Result<Decls, SyntaxFault>
+    ensures { Agrees (λ x. (x, rest.new)) result (decls_at most_brackets most_height rest.old) }
 {
     let mut decls = Items::new(alloc);
     for _ in 0..rest.len() + 1 {
-        if is_empty(rest) {
+        if rest.is_empty() {
             return Ok(decls);
         }
         decls = decl_at(alloc, decls, rest)?;
@@ -126,12 +118,10 @@ fn line_by(symbol: &Symbol, line: u32) -> Option<Line>
     }
 }
 
-fn line_at(rest: &[Lexeme]) -> Option<Line>
+fn line_at(rest: &Lexemes<'_>) -> Option<Line>
     ensures { result ≡ line_at rest.now }
 {
-    let [first, ..] = rest else {
-        return None;
-    };
+    let first = rest.first()?;
     line_by(&first.symbol, first.line)
 }
 
@@ -146,8 +136,8 @@ fn with_line(mut found: Directives, line: Line) -> Result<Directives, AllocError
 }
 
 #[tactic(auto, using(crate::proofs::Steps::lines))]
-fn directives_at(alloc: Global, rest: &mut &[Lexeme]) -> Result<Directives, SyntaxFault>
-    ensures { Agrees (λ x. (x, rest.new.now)) result (directives_at rest.old.now) }
+fn directives_at(alloc: Global, rest: &mut Lexemes<'_>) -> Result<Directives, SyntaxFault>
+    ensures { Agrees (λ x. (x, rest.new)) result (directives_at rest.old) }
 {
     let mut found = Directives {
         exports: Items::new(alloc),
@@ -158,7 +148,7 @@ fn directives_at(alloc: Global, rest: &mut &[Lexeme]) -> Result<Directives, Synt
             return Ok(found);
         };
         found = with_line(found, line)?;
-        *rest = past(rest);
+        rest.advance();
     }
     Err(refused(rest))
 }
@@ -172,15 +162,15 @@ fn compartment_by(symbol: &Symbol) -> Option<Name>
     }
 }
 
-fn compartment_at(rest: &mut &[Lexeme]) -> Result<Name, SyntaxFault>
-    ensures { Agrees (λ x. (x, rest.new.now)) result (compartment_at rest.old.now) }
+fn compartment_at(rest: &mut Lexemes<'_>) -> Result<Name, SyntaxFault>
+    ensures { Agrees (λ x. (x, rest.new)) result (compartment_at rest.old) }
 {
-    let [first, following @ ..] = *rest else {
+    let Some(first) = rest.first() else {
         return Err(refused(rest));
     };
     match compartment_by(&first.symbol) {
         Some(name) => {
-            *rest = following;
+            rest.advance();
             Ok(name)
         }
         None => Err(refused(rest)),
@@ -192,9 +182,9 @@ fn compartment_at(rest: &mut &[Lexeme]) -> Result<Name, SyntaxFault>
 pub fn section_at(
     alloc: Global,
     line: u32,
-    rest: &mut &[Lexeme],
+    rest: &mut Lexemes<'_>,
 ) -> Result<SectionTree, SyntaxFault>
-    ensures { Agrees (λ x. (x, rest.new.now)) result (section_at line rest.old.now) }
+    ensures { Agrees (λ x. (x, rest.new)) result (section_at line rest.old) }
 {
     let name = compartment_at(rest)?;
     let Directives { exports, imports } = directives_at(alloc, rest)?;

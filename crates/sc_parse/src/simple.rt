@@ -12,11 +12,11 @@ ghost use Rattle.sc_parse.specs.StmtReaders.{step_before};
 use crate::calls::{call_at, expr_at};
 use crate::copy::copy_expr;
 use crate::heap::{allocated_at, free_statement, is_free, is_malloc};
-use crate::lookahead::{begins_call, begins_with, first_line, past};
+use crate::lookahead::begins_call;
 use sc_ast::{ExprTree, Literal, PlaceTree, SimpleKind, SimpleTree};
 use sc_base::{BinaryOp, MAX_BRACKETS, UNARY};
 use sc_parse_expr::{
-    Built, Lexeme, Mark, Symbol, SyntaxFault, keyword_at, parse_level, refused, refused_before,
+    Built, Lexemes, Mark, SyntaxFault, begins_with, parse_level, refused, refused_before,
 };
 use sqlite_items::Boxed;
 use std::alloc::{AllocError, Global};
@@ -82,26 +82,14 @@ fn change_of(mark: Mark) -> Option<Change>
     }
 }
 
-fn mark_by(symbol: &Symbol) -> Option<Mark>
-    ensures { result ≡ mark_by symbol.now }
-{
-    match symbol {
-        Symbol::Mark(mark) => Some(*mark),
-        _ => None,
-    }
-}
-
-fn mark_at(rest: &[Lexeme]) -> Option<Mark>
+fn mark_at(rest: &Lexemes<'_>) -> Option<Mark>
     ensures value { result ≡ mark_at rest.now }
     ensures some { IsSome result → 1 ≤ length rest.now }
 {
-    let [first, ..] = rest else {
-        return None;
-    };
-    mark_by(&first.symbol)
+    rest.mark()
 }
 
-fn change_at(rest: &[Lexeme]) -> Option<Change>
+fn change_at(rest: &Lexemes<'_>) -> Option<Change>
     ensures value { result ≡ change_at rest.now }
     ensures some { IsSome result → 1 ≤ length rest.now }
 {
@@ -109,7 +97,7 @@ fn change_at(rest: &[Lexeme]) -> Option<Change>
     change_of(mark)
 }
 
-fn step_at(rest: &[Lexeme]) -> Option<BinaryOp>
+fn step_at(rest: &Lexemes<'_>) -> Option<BinaryOp>
     ensures value { result ≡ step_at rest.now }
     ensures some { IsSome result → 1 ≤ length rest.now }
 {
@@ -126,7 +114,7 @@ fn makes_value(mark: Mark) -> bool
     )
 }
 
-fn begins_value(rest: &[Lexeme]) -> bool
+fn begins_value(rest: &Lexemes<'_>) -> bool
     ensures { result ≡ begins_value rest.now }
 {
     match mark_at(rest) {
@@ -136,14 +124,13 @@ fn begins_value(rest: &[Lexeme]) -> bool
 }
 
 #[tactic(auto, unfolding(crate::specs::StmtReaders::place_at))]
-fn place_at(alloc: Global, room: u32, rest: &mut &[Lexeme]) -> Result<Placed, SyntaxFault>
-    ensures { Agrees (λ x. (x, rest.new.now)) result (place_at most_brackets room rest.old.now) }
+fn place_at(alloc: Global, room: u32, rest: &mut Lexemes<'_>) -> Result<Placed, SyntaxFault>
+    ensures { Agrees (λ x. (x, rest.new)) result (place_at most_brackets room rest.old) }
 {
     if begins_value(rest) {
         return Err(refused(rest));
     }
-    let (Built { tree, height }, following) = parse_level(alloc, MAX_BRACKETS, room, UNARY, rest)?;
-    *rest = following;
+    let Built { tree, height } = parse_level(alloc, MAX_BRACKETS, room, UNARY, rest)?;
     match PlaceTree::new(tree.into_inner()) {
         Ok(place) => Ok(Placed { place, height }),
         Err(_) => Err(refused(rest)),
@@ -155,9 +142,9 @@ fn value_assigned(
     alloc: Global,
     room: u32,
     place: PlaceTree,
-    rest: &mut &[Lexeme],
+    rest: &mut Lexemes<'_>,
 ) -> Result<SimpleKind, SyntaxFault>
-    ensures { Agrees (λ x. (x, rest.new.now)) result (value_assigned most_brackets room place rest.old.now) }
+    ensures { Agrees (λ x. (x, rest.new)) result (value_assigned most_brackets room place rest.old) }
 {
     if begins_call(rest) {
         let call = call_at(alloc, room, rest)?;
@@ -173,13 +160,13 @@ fn assigned_at(
     alloc: Global,
     room: u32,
     place: PlaceTree,
-    rest: &mut &[Lexeme],
+    rest: &mut Lexemes<'_>,
 ) -> Result<SimpleKind, SyntaxFault>
     requires { room < 4294967295 }
-    ensures { Agrees (λ x. (x, rest.new.now)) result (assigned_at most_brackets room place rest.old.now) }
+    ensures { Agrees (λ x. (x, rest.new)) result (assigned_at most_brackets room place rest.old) }
 {
-    if is_malloc(keyword_at(rest)) {
-        *rest = past(rest);
+    if is_malloc(rest.keyword()) {
+        rest.advance();
         allocated_at(alloc, room, place, rest)
     } else {
         value_assigned(alloc, room, place, rest)
@@ -214,9 +201,9 @@ fn operand_at(
     room: u32,
     op: BinaryOp,
     placed: Placed,
-    rest: &mut &[Lexeme],
+    rest: &mut Lexemes<'_>,
 ) -> Result<SimpleKind, SyntaxFault>
-    ensures { Agrees (λ x. (x, rest.new.now)) result (operand_at most_brackets room op placed rest.old.now) }
+    ensures { Agrees (λ x. (x, rest.new)) result (operand_at most_brackets room op placed rest.old) }
 {
     if placed.height >= room {
         return Err(refused_before(rest));
@@ -231,7 +218,7 @@ fn stepped(
     room: u32,
     op: BinaryOp,
     placed: Placed,
-    rest: &[Lexeme],
+    rest: &Lexemes<'_>,
 ) -> Result<SimpleKind, SyntaxFault>
     ensures { Agrees (λ x. (x, rest.now)) result (stepped room op placed rest.now) }
 {
@@ -249,10 +236,10 @@ fn changed(
     room: u32,
     change: Option<Change>,
     placed: Placed,
-    rest: &mut &[Lexeme],
+    rest: &mut Lexemes<'_>,
 ) -> Result<SimpleKind, SyntaxFault>
     requires { room < 4294967295 }
-    ensures { Agrees (λ x. (x, rest.new.now)) result (changed most_brackets room change placed rest.old.now) }
+    ensures { Agrees (λ x. (x, rest.new)) result (changed most_brackets room change placed rest.old) }
 {
     match change {
         None => Err(refused_before(rest)),
@@ -263,19 +250,23 @@ fn changed(
 }
 
 // The change at the start. Goes past the first lexeme.
-fn take_change(rest: &mut &[Lexeme]) -> Option<Change>
-    ensures value { result ≡ change_at rest.old.now }
-    ensures moved { rest.new.now ≡ drop 1 rest.old.now }
+fn take_change(rest: &mut Lexemes<'_>) -> Option<Change>
+    ensures value { result ≡ change_at rest.old }
+    ensures moved { rest.new ≡ drop 1 rest.old }
 {
     let change = change_at(rest);
-    *rest = past(rest);
+    rest.advance();
     change
 }
 
 #[tactic(auto, unfolding(crate::specs::StmtReaders::assignment_at))]
-fn assignment_at(alloc: Global, room: u32, rest: &mut &[Lexeme]) -> Result<SimpleKind, SyntaxFault>
+fn assignment_at(
+    alloc: Global,
+    room: u32,
+    rest: &mut Lexemes<'_>,
+) -> Result<SimpleKind, SyntaxFault>
     requires { room < 4294967295 }
-    ensures { Agrees (λ x. (x, rest.new.now)) result (assignment_at most_brackets room rest.old.now) }
+    ensures { Agrees (λ x. (x, rest.new)) result (assignment_at most_brackets room rest.old) }
 {
     let placed = place_at(alloc, room, rest)?;
     let change = take_change(rest);
@@ -287,50 +278,58 @@ fn step_before(
     alloc: Global,
     room: u32,
     op: BinaryOp,
-    rest: &mut &[Lexeme],
+    rest: &mut Lexemes<'_>,
 ) -> Result<SimpleKind, SyntaxFault>
-    ensures { Agrees (λ x. (x, rest.new.now)) result (step_before most_brackets room op rest.old.now) }
+    ensures { Agrees (λ x. (x, rest.new)) result (step_before most_brackets room op rest.old) }
 {
     let placed = place_at(alloc, room, rest)?;
     stepped(alloc, room, op, placed, rest)
 }
 
-fn call_statement(alloc: Global, room: u32, rest: &mut &[Lexeme]) -> Result<SimpleKind, SyntaxFault>
-    ensures { Agrees (λ x. (x, rest.new.now)) result (call_statement most_brackets room rest.old.now) }
+fn call_statement(
+    alloc: Global,
+    room: u32,
+    rest: &mut Lexemes<'_>,
+) -> Result<SimpleKind, SyntaxFault>
+    ensures { Agrees (λ x. (x, rest.new)) result (call_statement most_brackets room rest.old) }
 {
     Ok(SimpleKind::Call(call_at(alloc, room, rest)?))
 }
 
 /// What may stand in the head of a `for`, where its parts are at most `room` high.
 #[tactic(auto, unfolding(crate::specs::StmtReaders::simple_at))]
-pub fn simple_at(alloc: Global, room: u32, rest: &mut &[Lexeme]) -> Result<SimpleKind, SyntaxFault>
+pub fn simple_at(
+    alloc: Global,
+    room: u32,
+    rest: &mut Lexemes<'_>,
+) -> Result<SimpleKind, SyntaxFault>
     requires { room < 4294967295 }
-    ensures { Agrees (λ x. (x, rest.new.now)) result (simple_at most_brackets room rest.old.now) }
+    ensures { Agrees (λ x. (x, rest.new)) result (simple_at most_brackets room rest.old) }
 {
     match step_at(rest) {
         Some(op) => {
-            *rest = past(rest);
+            rest.advance();
             step_before(alloc, room, op, rest)
         }
         None => unstepped(alloc, room, rest),
     }
 }
 
-fn unstepped(alloc: Global, room: u32, rest: &mut &[Lexeme]) -> Result<SimpleKind, SyntaxFault>
+fn unstepped(alloc: Global, room: u32, rest: &mut Lexemes<'_>) -> Result<SimpleKind, SyntaxFault>
     requires { room < 4294967295 }
-    ensures { Agrees (λ x. (x, rest.new.now)) result (unstepped most_brackets room rest.old.now) }
+    ensures { Agrees (λ x. (x, rest.new)) result (unstepped most_brackets room rest.old) }
 {
-    if is_free(keyword_at(rest)) {
-        *rest = past(rest);
+    if is_free(rest.keyword()) {
+        rest.advance();
         free_statement(alloc, room, rest)
     } else {
         unfreed(alloc, room, rest)
     }
 }
 
-fn unfreed(alloc: Global, room: u32, rest: &mut &[Lexeme]) -> Result<SimpleKind, SyntaxFault>
+fn unfreed(alloc: Global, room: u32, rest: &mut Lexemes<'_>) -> Result<SimpleKind, SyntaxFault>
     requires { room < 4294967295 }
-    ensures { Agrees (λ x. (x, rest.new.now)) result (unfreed most_brackets room rest.old.now) }
+    ensures { Agrees (λ x. (x, rest.new)) result (unfreed most_brackets room rest.old) }
 {
     if begins_call(rest) {
         call_statement(alloc, room, rest)
@@ -345,9 +344,9 @@ pub fn part_at(
     alloc: Global,
     room: u32,
     ends: Mark,
-    rest: &mut &[Lexeme],
+    rest: &mut Lexemes<'_>,
 ) -> Result<Option<SimpleTree>, SyntaxFault>
-    ensures { Agrees (λ x. (x, rest.new.now)) result (part_at most_brackets room ends rest.old.now) }
+    ensures { Agrees (λ x. (x, rest.new)) result (part_at most_brackets room ends rest.old) }
 {
     if begins_with(ends, rest) {
         return Ok(None);
@@ -355,12 +354,12 @@ pub fn part_at(
     if room < 1 {
         return Err(refused(rest));
     }
-    let line = first_line(rest);
+    let line = rest.line();
     let kind = Boxed::new(alloc, simple_at(alloc, room - 1, rest)?)?;
     Ok(Some(SimpleTree { line, kind }))
 }
 
-fn always(room: u32, rest: &[Lexeme]) -> Result<ExprTree, SyntaxFault>
+fn always(room: u32, rest: &Lexemes<'_>) -> Result<ExprTree, SyntaxFault>
     ensures { Agrees (λ x. (x, rest.now)) result (always room rest.now) }
 {
     if room < 1 {
@@ -374,8 +373,8 @@ fn always(room: u32, rest: &[Lexeme]) -> Result<ExprTree, SyntaxFault>
 
 /// The condition of a `for`; an absent one is the literal 1.
 #[tactic(auto, unfolding(crate::specs::StmtReaders::test_at))]
-pub fn test_at(alloc: Global, room: u32, rest: &mut &[Lexeme]) -> Result<ExprTree, SyntaxFault>
-    ensures { Agrees (λ x. (x, rest.new.now)) result (test_at most_brackets room rest.old.now) }
+pub fn test_at(alloc: Global, room: u32, rest: &mut Lexemes<'_>) -> Result<ExprTree, SyntaxFault>
+    ensures { Agrees (λ x. (x, rest.new)) result (test_at most_brackets room rest.old) }
 {
     if begins_with(Mark::Semicolon, rest) {
         always(room, rest)

@@ -10,10 +10,10 @@ ghost use Rattle.std.specs.Prelude.{◌≡◌, ◌≤◌, ◌<◌, ◌+◌, [], 
 ghost use Rattle.sc_parse.specs.StmtReaders.{lone_if};
 
 use crate::calls::{call_at, condition_at, expr_at};
-use crate::lookahead::{begins_call, begins_with, ended_by, first_line, is_else, past, take};
+use crate::lookahead::{begins_call, ended_by, is_else};
 use crate::simple::{part_at, simple_at, test_at};
 use sc_ast::{ExprTree, SimpleKind, SimpleTree, StmtKind, StmtTree, Stmts};
-use sc_parse_expr::{Keyword, Lexeme, Mark, SyntaxFault, keyword_at, refused};
+use sc_parse_expr::{Keyword, Lexemes, Mark, SyntaxFault, begins_with, refused, take};
 use sqlite_items::Items;
 use std::alloc::Global;
 
@@ -37,8 +37,8 @@ fn kind_of(kind: SimpleKind) -> StmtKind
     }
 }
 
-fn value_returned(alloc: Global, room: u32, rest: &mut &[Lexeme]) -> Result<StmtKind, SyntaxFault>
-    ensures { Agrees (λ x. (x, rest.new.now)) result (value_returned most_brackets room rest.old.now) }
+fn value_returned(alloc: Global, room: u32, rest: &mut Lexemes<'_>) -> Result<StmtKind, SyntaxFault>
+    ensures { Agrees (λ x. (x, rest.new)) result (value_returned most_brackets room rest.old) }
 {
     if begins_call(rest) {
         Ok(StmtKind::ReturnCall(call_at(alloc, room, rest)?))
@@ -49,8 +49,8 @@ fn value_returned(alloc: Global, room: u32, rest: &mut &[Lexeme]) -> Result<Stmt
 
 // What follows `return`, without the `;`.
 #[tactic(auto, unfolding(crate::specs::StmtReaders::returned))]
-fn returned(alloc: Global, room: u32, rest: &mut &[Lexeme]) -> Result<StmtKind, SyntaxFault>
-    ensures { Agrees (λ x. (x, rest.new.now)) result (returned most_brackets room rest.old.now) }
+fn returned(alloc: Global, room: u32, rest: &mut Lexemes<'_>) -> Result<StmtKind, SyntaxFault>
+    ensures { Agrees (λ x. (x, rest.new)) result (returned most_brackets room rest.old) }
 {
     if begins_with(Mark::Semicolon, rest) {
         Ok(StmtKind::Return)
@@ -59,9 +59,9 @@ fn returned(alloc: Global, room: u32, rest: &mut &[Lexeme]) -> Result<StmtKind, 
     }
 }
 
-fn simple_or_none(alloc: Global, room: u32, rest: &mut &[Lexeme]) -> Result<StmtKind, SyntaxFault>
+fn simple_or_none(alloc: Global, room: u32, rest: &mut Lexemes<'_>) -> Result<StmtKind, SyntaxFault>
     requires { room < 4294967295 }
-    ensures { Agrees (λ x. (x, rest.new.now)) result (simple_or_none most_brackets room rest.old.now) }
+    ensures { Agrees (λ x. (x, rest.new)) result (simple_or_none most_brackets room rest.old) }
 {
     if begins_with(Mark::Semicolon, rest) {
         Ok(StmtKind::Empty)
@@ -76,22 +76,22 @@ fn plain_at(
     alloc: Global,
     room: u32,
     word: Option<Keyword>,
-    rest: &mut &[Lexeme],
+    rest: &mut Lexemes<'_>,
 ) -> Result<StmtKind, SyntaxFault>
     requires { room < 4294967295 }
-    ensures { Agrees (λ x. (x, rest.new.now)) result (plain_at most_brackets room word rest.old.now) }
+    ensures { Agrees (λ x. (x, rest.new)) result (plain_at most_brackets room word rest.old) }
 {
     match word {
         Some(Keyword::Break) => {
-            *rest = past(rest);
+            rest.advance();
             Ok(StmtKind::Break)
         }
         Some(Keyword::Continue) => {
-            *rest = past(rest);
+            rest.advance();
             Ok(StmtKind::Continue)
         }
         Some(Keyword::Return) => {
-            *rest = past(rest);
+            rest.advance();
             returned(alloc, room, rest)
         }
         _ => simple_or_none(alloc, room, rest),
@@ -99,11 +99,11 @@ fn plain_at(
 }
 
 #[tactic(auto, unfolding(crate::specs::StmtReaders::ended_at))]
-fn ended_at(alloc: Global, room: u32, rest: &mut &[Lexeme]) -> Result<StmtKind, SyntaxFault>
+fn ended_at(alloc: Global, room: u32, rest: &mut Lexemes<'_>) -> Result<StmtKind, SyntaxFault>
     requires { room < 4294967295 }
-    ensures { Agrees (λ x. (x, rest.new.now)) result (ended_at most_brackets room rest.old.now) }
+    ensures { Agrees (λ x. (x, rest.new)) result (ended_at most_brackets room rest.old) }
 {
-    let kind = plain_at(alloc, room, keyword_at(rest), rest)?;
+    let kind = plain_at(alloc, room, rest.keyword(), rest)?;
     ended_by(Mark::Semicolon, kind, rest)
 }
 
@@ -111,9 +111,9 @@ fn ended_at(alloc: Global, room: u32, rest: &mut &[Lexeme]) -> Result<StmtKind, 
 fn first_part(
     alloc: Global,
     room: u32,
-    rest: &mut &[Lexeme],
+    rest: &mut Lexemes<'_>,
 ) -> Result<Option<SimpleTree>, SyntaxFault>
-    ensures { Agrees (λ x. (x, rest.new.now)) result (first_part most_brackets room rest.old.now) }
+    ensures { Agrees (λ x. (x, rest.new)) result (first_part most_brackets room rest.old) }
 {
     take(Mark::OpenParen, rest)?;
     let part = part_at(alloc, room, Mark::Semicolon, rest)?;
@@ -121,8 +121,8 @@ fn first_part(
 }
 
 #[tactic(auto, unfolding(crate::specs::StmtReaders::middle_part))]
-fn middle_part(alloc: Global, room: u32, rest: &mut &[Lexeme]) -> Result<ExprTree, SyntaxFault>
-    ensures { Agrees (λ x. (x, rest.new.now)) result (middle_part most_brackets room rest.old.now) }
+fn middle_part(alloc: Global, room: u32, rest: &mut Lexemes<'_>) -> Result<ExprTree, SyntaxFault>
+    ensures { Agrees (λ x. (x, rest.new)) result (middle_part most_brackets room rest.old) }
 {
     let cond = test_at(alloc, room, rest)?;
     ended_by(Mark::Semicolon, cond, rest)
@@ -132,17 +132,17 @@ fn middle_part(alloc: Global, room: u32, rest: &mut &[Lexeme]) -> Result<ExprTre
 fn last_part(
     alloc: Global,
     room: u32,
-    rest: &mut &[Lexeme],
+    rest: &mut Lexemes<'_>,
 ) -> Result<Option<SimpleTree>, SyntaxFault>
-    ensures { Agrees (λ x. (x, rest.new.now)) result (last_part most_brackets room rest.old.now) }
+    ensures { Agrees (λ x. (x, rest.new)) result (last_part most_brackets room rest.old) }
 {
     let part = part_at(alloc, room, Mark::CloseParen, rest)?;
     ended_by(Mark::CloseParen, part, rest)
 }
 
 #[tactic(auto, unfolding(crate::specs::StmtReaders::for_head))]
-fn for_head(alloc: Global, room: u32, rest: &mut &[Lexeme]) -> Result<ForHead, SyntaxFault>
-    ensures { Agrees (λ x. (x, rest.new.now)) result (for_head most_brackets room rest.old.now) }
+fn for_head(alloc: Global, room: u32, rest: &mut Lexemes<'_>) -> Result<ForHead, SyntaxFault>
+    ensures { Agrees (λ x. (x, rest.new)) result (for_head most_brackets room rest.old) }
 {
     let first = first_part(alloc, room, rest)?;
     let cond = middle_part(alloc, room, rest)?;
@@ -165,8 +165,8 @@ fn loop_of(head: ForHead, body: Stmts) -> StmtKind
 /// Statements up to `}`, each at most `room` high.
 #[cycle(statements)]
 #[tactic(auto, using(crate::proofs::Steps::groups))]
-pub fn stmts_at(alloc: Global, room: u32, rest: &mut &[Lexeme]) -> Result<Stmts, SyntaxFault>
-    ensures { Agrees (λ x. (x, rest.new.now)) result (stmts_at (stmt_at most_brackets room) rest.old.now) }
+pub fn stmts_at(alloc: Global, room: u32, rest: &mut Lexemes<'_>) -> Result<Stmts, SyntaxFault>
+    ensures { Agrees (λ x. (x, rest.new)) result (stmts_at (stmt_at most_brackets room) rest.old) }
 {
     let mut stmts = Items::new(alloc);
     for _ in 0..rest.len() + 1 {
@@ -184,9 +184,9 @@ fn with_stmt(
     alloc: Global,
     room: u32,
     mut stmts: Stmts,
-    rest: &mut &[Lexeme],
+    rest: &mut Lexemes<'_>,
 ) -> Result<Stmts, SyntaxFault>
-    ensures { Agrees (λ x. (x, rest.new.now)) result (adds (stmt_at most_brackets room) stmts rest.old.now) }
+    ensures { Agrees (λ x. (x, rest.new)) result (adds (stmt_at most_brackets room) stmts rest.old) }
 {
     stmts.push(stmt_at(alloc, room, rest)?)?;
     Ok(stmts)
@@ -194,8 +194,8 @@ fn with_stmt(
 
 #[cycle(statements)]
 #[tactic(auto, unfolding(crate::specs::StmtReaders::block_at))]
-fn block_at(alloc: Global, room: u32, rest: &mut &[Lexeme]) -> Result<Stmts, SyntaxFault>
-    ensures { Agrees (λ x. (x, rest.new.now)) result (block_at (stmt_at most_brackets room) rest.old.now) }
+fn block_at(alloc: Global, room: u32, rest: &mut Lexemes<'_>) -> Result<Stmts, SyntaxFault>
+    ensures { Agrees (λ x. (x, rest.new)) result (block_at (stmt_at most_brackets room) rest.old) }
 {
     take(Mark::OpenCurly, rest)?;
     let stmts = stmts_at(alloc, room, rest)?;
@@ -204,8 +204,8 @@ fn block_at(alloc: Global, room: u32, rest: &mut &[Lexeme]) -> Result<Stmts, Syn
 
 // The `if` after an `else`, as a list of one statement.
 #[cycle(statements)]
-fn lone_if(alloc: Global, room: u32, rest: &mut &[Lexeme]) -> Result<Stmts, SyntaxFault>
-    ensures { Agrees (λ x. (x, rest.new.now)) result (lone_if (stmt_at most_brackets room) rest.old.now) }
+fn lone_if(alloc: Global, room: u32, rest: &mut Lexemes<'_>) -> Result<Stmts, SyntaxFault>
+    ensures { Agrees (λ x. (x, rest.new)) result (lone_if (stmt_at most_brackets room) rest.old) }
 {
     let mut stmts = Items::new(alloc);
     stmts.push(stmt_at(alloc, room, rest)?)?;
@@ -214,10 +214,10 @@ fn lone_if(alloc: Global, room: u32, rest: &mut &[Lexeme]) -> Result<Stmts, Synt
 
 #[cycle(statements)]
 #[tactic(auto, unfolding(crate::specs::StmtReaders::after_else))]
-fn after_else(alloc: Global, room: u32, rest: &mut &[Lexeme]) -> Result<Stmts, SyntaxFault>
-    ensures { Agrees (λ x. (x, rest.new.now)) result (after_else (stmt_at most_brackets room) rest.old.now) }
+fn after_else(alloc: Global, room: u32, rest: &mut Lexemes<'_>) -> Result<Stmts, SyntaxFault>
+    ensures { Agrees (λ x. (x, rest.new)) result (after_else (stmt_at most_brackets room) rest.old) }
 {
-    match keyword_at(rest) {
+    match rest.keyword() {
         Some(Keyword::If) => lone_if(alloc, room, rest),
         _ => block_at(alloc, room, rest),
     }
@@ -225,11 +225,11 @@ fn after_else(alloc: Global, room: u32, rest: &mut &[Lexeme]) -> Result<Stmts, S
 
 #[cycle(statements)]
 #[tactic(auto, unfolding(crate::specs::StmtReaders::else_at))]
-fn else_at(alloc: Global, room: u32, rest: &mut &[Lexeme]) -> Result<Stmts, SyntaxFault>
-    ensures { Agrees (λ x. (x, rest.new.now)) result (else_at (stmt_at most_brackets room) rest.old.now) }
+fn else_at(alloc: Global, room: u32, rest: &mut Lexemes<'_>) -> Result<Stmts, SyntaxFault>
+    ensures { Agrees (λ x. (x, rest.new)) result (else_at (stmt_at most_brackets room) rest.old) }
 {
-    if is_else(keyword_at(rest)) {
-        *rest = past(rest);
+    if is_else(rest.keyword()) {
+        rest.advance();
         after_else(alloc, room, rest)
     } else {
         Ok(Items::new(alloc))
@@ -238,9 +238,9 @@ fn else_at(alloc: Global, room: u32, rest: &mut &[Lexeme]) -> Result<Stmts, Synt
 
 #[cycle(statements)]
 #[tactic(auto, unfolding(crate::specs::StmtReaders::after_if))]
-fn after_if(alloc: Global, room: u32, rest: &mut &[Lexeme]) -> Result<StmtKind, SyntaxFault>
-    ensures { Agrees (λ x. (x, rest.new.now)) result
-        (after_if most_brackets (stmt_at most_brackets room) room rest.old.now) }
+fn after_if(alloc: Global, room: u32, rest: &mut Lexemes<'_>) -> Result<StmtKind, SyntaxFault>
+    ensures { Agrees (λ x. (x, rest.new)) result
+        (after_if most_brackets (stmt_at most_brackets room) room rest.old) }
 {
     let cond = condition_at(alloc, room, rest)?;
     let then_part = block_at(alloc, room, rest)?;
@@ -254,9 +254,9 @@ fn after_if(alloc: Global, room: u32, rest: &mut &[Lexeme]) -> Result<StmtKind, 
 
 #[cycle(statements)]
 #[tactic(auto, unfolding(crate::specs::StmtReaders::after_while))]
-fn after_while(alloc: Global, room: u32, rest: &mut &[Lexeme]) -> Result<StmtKind, SyntaxFault>
-    ensures { Agrees (λ x. (x, rest.new.now)) result
-        (after_while most_brackets (stmt_at most_brackets room) room rest.old.now) }
+fn after_while(alloc: Global, room: u32, rest: &mut Lexemes<'_>) -> Result<StmtKind, SyntaxFault>
+    ensures { Agrees (λ x. (x, rest.new)) result
+        (after_while most_brackets (stmt_at most_brackets room) room rest.old) }
 {
     let cond = condition_at(alloc, room, rest)?;
     let body = block_at(alloc, room, rest)?;
@@ -265,9 +265,9 @@ fn after_while(alloc: Global, room: u32, rest: &mut &[Lexeme]) -> Result<StmtKin
 
 #[cycle(statements)]
 #[tactic(auto, unfolding(crate::specs::StmtReaders::after_for))]
-fn after_for(alloc: Global, room: u32, rest: &mut &[Lexeme]) -> Result<StmtKind, SyntaxFault>
-    ensures { Agrees (λ x. (x, rest.new.now)) result
-        (after_for most_brackets (stmt_at most_brackets room) room rest.old.now) }
+fn after_for(alloc: Global, room: u32, rest: &mut Lexemes<'_>) -> Result<StmtKind, SyntaxFault>
+    ensures { Agrees (λ x. (x, rest.new)) result
+        (after_for most_brackets (stmt_at most_brackets room) room rest.old) }
 {
     let head = for_head(alloc, room, rest)?;
     let body = block_at(alloc, room, rest)?;
@@ -279,23 +279,23 @@ fn kind_by(
     alloc: Global,
     room: u32,
     word: Option<Keyword>,
-    rest: &mut &[Lexeme],
+    rest: &mut Lexemes<'_>,
 ) -> Result<StmtKind, SyntaxFault>
     requires { room < 4294967295 }
-    ensures { Agrees (λ x. (x, rest.new.now)) result
-        (kind_by most_brackets (stmt_at most_brackets room) room word rest.old.now) }
+    ensures { Agrees (λ x. (x, rest.new)) result
+        (kind_by most_brackets (stmt_at most_brackets room) room word rest.old) }
 {
     match word {
         Some(Keyword::If) => {
-            *rest = past(rest);
+            rest.advance();
             after_if(alloc, room, rest)
         }
         Some(Keyword::While) => {
-            *rest = past(rest);
+            rest.advance();
             after_while(alloc, room, rest)
         }
         Some(Keyword::For) => {
-            *rest = past(rest);
+            rest.advance();
             after_for(alloc, room, rest)
         }
         _ => ended_at(alloc, room, rest),
@@ -305,21 +305,21 @@ fn kind_by(
 // A statement whose parts are at most `room` high.
 #[cycle(statements)]
 #[tactic(auto, unfolding(crate::specs::StmtReaders::stmt_within))]
-fn stmt_within(alloc: Global, room: u32, rest: &mut &[Lexeme]) -> Result<StmtTree, SyntaxFault>
+fn stmt_within(alloc: Global, room: u32, rest: &mut Lexemes<'_>) -> Result<StmtTree, SyntaxFault>
     requires { room < 4294967295 }
-    ensures { Agrees (λ x. (x, rest.new.now)) result
-        (stmt_within most_brackets (stmt_at most_brackets room) room rest.old.now) }
+    ensures { Agrees (λ x. (x, rest.new)) result
+        (stmt_within most_brackets (stmt_at most_brackets room) room rest.old) }
 {
-    let line = first_line(rest);
-    let kind = kind_by(alloc, room, keyword_at(rest), rest)?;
+    let line = rest.line();
+    let kind = kind_by(alloc, room, rest.keyword(), rest)?;
     Ok(StmtTree { line, kind })
 }
 
 // A statement, at most `room` high.
 #[cycle(statements)]
 #[tactic(auto, using(crate::proofs::Steps::depths))]
-fn stmt_at(alloc: Global, room: u32, rest: &mut &[Lexeme]) -> Result<StmtTree, SyntaxFault>
-    ensures { Agrees (λ x. (x, rest.new.now)) result (stmt_at most_brackets room rest.old.now) }
+fn stmt_at(alloc: Global, room: u32, rest: &mut Lexemes<'_>) -> Result<StmtTree, SyntaxFault>
+    ensures { Agrees (λ x. (x, rest.new)) result (stmt_at most_brackets room rest.old) }
 {
     match room.checked_sub(1) {
         Some(below) => stmt_within(alloc, below, rest),

@@ -3,14 +3,14 @@
 ghost use Rattle.sc_parse.specs.Prelude.{Agrees, bracketed_length, declarator_at, elements_at, length_at};
 ghost use Rattle.std.specs.Prelude.{◌≡◌, length};
 
-use crate::lookahead::{integer_by, skip, take};
+use crate::lookahead::{integer_by, skip};
 use sc_ast::{ArrayLength, Ident};
-use sc_parse_expr::{Lexeme, Mark, SyntaxFault, name_at, refused, star_count};
+use sc_parse_expr::{Lexemes, Mark, SyntaxFault, name_at, refused, take, take_stars};
 
-fn elements_at(rest: &mut &[Lexeme]) -> Result<ArrayLength, SyntaxFault>
-    ensures { Agrees (λ x. (x, rest.new.now)) result (elements_at rest.old.now) }
+fn elements_at(rest: &mut Lexemes<'_>) -> Result<ArrayLength, SyntaxFault>
+    ensures { Agrees (λ x. (x, rest.new)) result (elements_at rest.old) }
 {
-    let [first, following @ ..] = *rest else {
+    let Some(first) = rest.first() else {
         return Err(refused(rest));
     };
     let Some(literal) = integer_by(&first.symbol) else {
@@ -18,15 +18,15 @@ fn elements_at(rest: &mut &[Lexeme]) -> Result<ArrayLength, SyntaxFault>
     };
     match ArrayLength::new(literal.value()) {
         Some(elements) => {
-            *rest = following;
+            rest.advance();
             Ok(elements)
         }
         None => Err(refused(rest)),
     }
 }
 
-fn bracketed_length(rest: &mut &[Lexeme]) -> Result<Option<ArrayLength>, SyntaxFault>
-    ensures { Agrees (λ x. (x, rest.new.now)) result (bracketed_length rest.old.now) }
+fn bracketed_length(rest: &mut Lexemes<'_>) -> Result<Option<ArrayLength>, SyntaxFault>
+    ensures { Agrees (λ x. (x, rest.new)) result (bracketed_length rest.old) }
 {
     let elements = elements_at(rest)?;
     take(Mark::CloseSquare, rest)?;
@@ -34,8 +34,8 @@ fn bracketed_length(rest: &mut &[Lexeme]) -> Result<Option<ArrayLength>, SyntaxF
 }
 
 #[tactic(auto, unfolding(crate::specs::Readers::length_at))]
-fn length_at(rest: &mut &[Lexeme]) -> Result<Option<ArrayLength>, SyntaxFault>
-    ensures { Agrees (λ x. (x, rest.new.now)) result (length_at rest.old.now) }
+fn length_at(rest: &mut Lexemes<'_>) -> Result<Option<ArrayLength>, SyntaxFault>
+    ensures { Agrees (λ x. (x, rest.new)) result (length_at rest.old) }
 {
     if skip(Mark::OpenSquare, rest) {
         bracketed_length(rest)
@@ -54,15 +54,14 @@ pub struct Declarator {
 
 /// A declarator, after its base.
 #[tactic(auto, unfolding(crate::specs::Readers::declarator_at))]
-pub fn declarator_at(rest: &mut &[Lexeme]) -> Result<Declarator, SyntaxFault>
-    ensures { Agrees (λ x. (x, rest.new.now)) result (declarator_at rest.old.now) }
+pub fn declarator_at(rest: &mut Lexemes<'_>) -> Result<Declarator, SyntaxFault>
+    ensures { Agrees (λ x. (x, rest.new)) result (declarator_at rest.old) }
 {
-    let stars = star_count(rest);
-    *rest = &rest[stars..];
+    let stars = take_stars(rest);
     let name = name_at(rest)?;
     let length = length_at(rest)?;
     Ok(Declarator {
-        stars: stars as u64,
+        stars,
         name,
         length,
     })

@@ -27,3 +27,15 @@ pub use Rattle.sc_parse_expr.specs.declared.mark.Keyword.{Keyword}
 pub use Rattle.sc_parse_expr.specs.declared.mark.Mark.{Mark}
 pub use Rattle.sc_parse_expr.specs.declared.operator.Extension.{Extension}
 pub use Rattle.sc_parse_expr.specs.declared.operator.Prefix.{Prefix}
+pub use Rattle.std.proofs.Common.{IsTrue, bytes_eq, codes, get_or, is_some, length, leb-false, nat_le, slice_range}
+pub use Rattle.std.proofs.Common.{◌&&◌, ◌||◌}
+pub use Rattle.std.specs.Option.{option_map, option_or}
+pub use Rattle.std.specs.Prelude.{unwrap_or}
+pub use Rattle.sc_base.specs.Prelude.{is_name, is_reserved, name_of}
+pub use Rattle.sc_lex.specs.Prelude.{directive_kind, heading_name, is_export, is_import, is_integer_constant, mark_kind}
+pub use Rattle.sc_lex.specs.Prelude.{words}
+unfoldable pub use Rattle.sc_lex.specs.Prelude.{integer_of, line_kind, word_kind}
+pub use Rattle.sc_lex.specs.declared.token.Token.{Token}
+pub use Rattle.sc_parse_expr.specs.Prelude.{IsSpan, fourth_word, ident_in, import_symbol, look_up, mark_by, mark_texts}
+pub use Rattle.sc_parse_expr.specs.Prelude.{number_in, or_unused, symbol_of, third_word}
+unfoldable pub use Rattle.sc_parse_expr.specs.Prelude.{keyword_of, mark_of, says}

@@ -8,3 +8,5 @@ pub mod TypeNames
 pub mod Sound
 pub mod Complete
 pub mod Theorem
+pub mod Sayings
+pub mod Seen

@@ -1,6 +1,6 @@
 -- What is read is spelled so, and within the limits.
-use Rattle.sc_parse_expr.proofs.Common.{ExprTree, Extension, Found, IsKeyword, IsMark, Lexeme, List, Mark, None, Option}
-use Rattle.sc_parse_expr.proofs.Common.{Prefix, append_assoc, ltb-true, nat_lt, size_of, size_within, type_in_parens}
+use Rattle.sc_parse_expr.proofs.Common.{ExprTree, Extension, Found, IsKeyword, IsMark, Lexeme, List, None, Option}
+use Rattle.sc_parse_expr.proofs.Common.{append_assoc, ltb-true, nat_lt, size_of, size_within, type_in_parens}
 use Rattle.sc_parse_expr.proofs.Common.{Reader, Some, Spells, Symbol, [], ap, arith, arrow, cases_lt, expr_height}
 use Rattle.sc_parse_expr.proofs.Common.{extended_with, extension_at, extension_by, extension_level, extension_within}
 use Rattle.sc_parse_expr.proofs.Common.{following, found, go_on, index, joined, joined_with, lead_of, lead_with}

@@ -1,11 +1,10 @@
 -- What reading is at a level of height, at a bracket, and at a turn.
-use Rattle.sc_parse_expr.proofs.Common.{Extension, Fails, Found, Lexeme, List, None, Option, OutOfMemory, Reader}
+use Rattle.sc_parse_expr.proofs.Common.{Extension, Fails, Found, Lexeme, None, Option, OutOfMemory, Reader}
 use Rattle.sc_parse_expr.proofs.Common.{Refused, Some, SyntaxFault, ap, arith, extended_with, extension_within, go_on}
 use Rattle.sc_parse_expr.proofs.Common.{level_with, operand_with, read, read_nested, read_within, refl, suc, zero, ℕ}
-use Rattle.sc_parse_expr.proofs.Common.{◌+◌, ◌<◌, ◌≡◌}
-use Rattle.std.proofs.lemmas.List.Sums.{prefix_len-le-length}
-
-pub ruleset lengths = (prefix_len-le-length)
+use Rattle.sc_parse_expr.proofs.Common.{List, [], begins_with, drop, false, false≢true, star_count, true, ◌+◌, ◌<◌, ◌∷◌}
+use Rattle.sc_parse_expr.proofs.Common.{◌≡◌}
+use Rattle.sc_parse_expr.specs.declared.mark.Mark.TheVariants as mark
 
 pub read_at : (free room below level : ℕ) (ts : List Lexeme) → room ≡ below + 1 →
     read free room level ts ≡ level_with free (read_nested free) (read free below) below level ts
@@ -74,3 +73,18 @@ module _ (nested : ℕ → ℕ → Reader) (below : ℕ → Reader) (room : ℕ)
   turns_stop level (suc turns) x ext ts h q r = rw (q, r)
 
 pub ruleset loops = (turns_end, no_turns, turns_on, turns_stop)
+
+pub no_stars : (ts : List Lexeme) → begins_with mark.Star ts ≡ false → star_count ts ≡ 0
+unfolding star_count
+no_stars [] h = refl
+no_stars (t ∷ ts) h = rw h
+
+pub one_star : (ts : List Lexeme) → begins_with mark.Star ts ≡ true →
+    (star_count ts ≡ star_count (drop 1 ts) + 1) × (drop (star_count ts) ts ≡ drop (star_count (drop 1 ts)) (drop 1 ts))
+unfolding star_count
+one_star [] h = absurd (false≢true h)
+one_star (t ∷ ts) h =
+    let e : star_count (t ∷ ts) ≡ suc (star_count ts) = rw h (omega arith) in
+    (omega (arith, e), ap (λ n. drop n (t ∷ ts)) e)
+
+pub ruleset stars = (no_stars, one_star)

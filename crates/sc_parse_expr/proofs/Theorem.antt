@@ -1,6 +1,6 @@
 -- Reading gives exactly the prefixes within the limits, and lexemes spell one expression at most.
 use Rattle.sc_base.specs.Prelude.{most_brackets, most_height}
-use Rattle.sc_parse_expr.proofs.Common.{Agrees, Bor, Err, ExprTree, Found, IfOk, IsErrOf, IsParse, Lexeme, List, Ok}
+use Rattle.sc_parse_expr.proofs.Common.{Agrees, Err, ExprTree, Found, IfOk, IsErrOf, IsParse, Lexeme, List, Ok}
 use Rattle.sc_parse_expr.proofs.Common.{Refused, Result, Some, Spells, SyntaxFault, [], ap, arith, expr_height, found}
 use Rattle.sc_parse_expr.proofs.Common.{max, most_open, none-some, read, read_expr, subst, sym, ℕ, ◌-◌, ◌<◌, ◌∙◌, ◌≡◌}
 use Rattle.sc_parse_expr.proofs.Common.{◌≤◌}
@@ -37,15 +37,15 @@ trees_agree level ts e f d g =
     ap (λ x. x.tree) (same_some (sym first ∙ second))
 
 abbrev Answer : Type 0
-Answer = Result (Built × Bor (List Lexeme)) SyntaxFault
+Answer = Result Built SyntaxFault
 
-abbrev seen : Built × Bor (List Lexeme) → Found
-seen x = found x.0.tree x.0.height x.1.now
+abbrev seen : List Lexeme → Built → Found
+seen rest x = found x.tree x.height rest
 
 -- what is read is spelled by a prefix, and its height is that of the tree
-pub found_parse : (level count : ℕ) (ts : List Lexeme) (answer : Answer) → 0 < level → count ≤ most_brackets →
-    Agrees seen answer (read_expr level count ts) → IfOk answer (λ x. IsParse level count ts x.0.tree x.1.now)
-found_parse level count ts (Ok x) some opened h =
+pub found_parse : (level count : ℕ) (ts rest : List Lexeme) (answer : Answer) → 0 < level → count ≤ most_brackets →
+    Agrees (seen rest) answer (read_expr level count ts) → IfOk answer (λ x. IsParse level count ts x.tree rest)
+found_parse level count ts rest (Ok x) some opened h =
     let r = read_sound _ most_height level ts _ some h in
     record {
       taken = r.taken;
@@ -55,16 +55,17 @@ found_parse level count ts (Ok x) some opened h =
       few = omega (arith, r.few count);
       ends = λ ext at. omega (arith, r.onward ext at);
     }
-found_parse level count ts (Err fault) some opened h = tt
+found_parse level count ts rest (Err fault) some opened h = tt
 
-pub found_height : (level count : ℕ) (ts : List Lexeme) (answer : Answer) → 0 < level →
-    Agrees seen answer (read_expr level count ts) → IfOk answer (λ x. x.0.height ≡ expr_height x.0.tree)
-found_height level count ts (Ok x) some h = (read_sound _ most_height level ts _ some h).measured
-found_height level count ts (Err fault) some h = tt
+pub found_height : (level count : ℕ) (ts rest : List Lexeme) (answer : Answer) → 0 < level →
+    Agrees (seen rest) answer (read_expr level count ts) → IfOk answer (λ x. x.height ≡ expr_height x.tree)
+found_height level count ts rest (Ok x) some h = (read_sound _ most_height level ts _ some h).measured
+found_height level count ts rest (Err fault) some h = tt
 
 -- no prefix spells an expression where nothing is read
-pub refused_parse : (level count : ℕ) (ts : List Lexeme) (answer : Answer) →
-    Agrees seen answer (read_expr level count ts) → (left : ℕ) → IsErrOf answer (Refused left) →
-    (e : ExprTree) (rest : List Lexeme) → IsParse level count ts e rest → ⊥
-refused_parse level count ts answer h left is e rest parsed = none-some _
-    (sym (subst (λ k. Agrees seen k (read_expr level count ts)) is h) ∙ parse_complete level count ts e rest parsed)
+pub refused_parse : (level count : ℕ) (ts rest : List Lexeme) (answer : Answer) →
+    Agrees (seen rest) answer (read_expr level count ts) → (left : ℕ) → IsErrOf answer (Refused left) →
+    (e : ExprTree) (more : List Lexeme) → IsParse level count ts e more → ⊥
+refused_parse level count ts rest answer h left is e more parsed = none-some _
+    (sym (subst (λ k. Agrees (seen rest) k (read_expr level count ts)) is h) ∙
+    parse_complete level count ts e more parsed)

@@ -1,7 +1,8 @@
 -- What a list of lexemes begins with.
 use Rattle.sc_base.specs.Prelude.{most_brackets, most_height}
 use Rattle.sc_parse_expr.specs.Common.{ExprTree, expr_height}
-use Rattle.std.specs.Prelude.{◌≡◌, ℕ, Bool, false, List, [], ◌∷◌, ◌++◌, ◌≤◌, ◌<◌, Option, Some, None, Result, Ok, Err}
+use Rattle.std.specs.Prelude.{◌≡◌, ℕ, Bool, true, false, List, [], ◌∷◌, ◌++◌, ◌≤◌, ◌<◌, Option, Some, None, Result, Ok}
+use Rattle.std.specs.Prelude.{Err}
 use Rattle.std.specs.Prelude.{if◌then◌else◌}
 use Rattle.sc_parse_expr.specs.declared.fault.SyntaxFault.{SyntaxFault}
 use Rattle.sc_parse_expr.specs.declared.fault.SyntaxFault.TheVariants.{Refused, OutOfMemory}
@@ -58,6 +59,33 @@ keyword_by _ = None
 abbrev pub keyword_at : List Lexeme → Option Keyword
 keyword_at [] = None
 keyword_at (t ∷ ts) = keyword_by t.symbol
+
+abbrev pub mark_by : Symbol → Option Mark
+mark_by (symbol.Mark m) = Some m
+mark_by _ = None
+
+-- the mark at the start
+abbrev pub mark_at : List Lexeme → Option Mark
+mark_at [] = None
+mark_at (t ∷ ts) = mark_by t.symbol
+
+abbrev pub ident_at : List Lexeme → Option (List ℕ)
+ident_at [] = None
+ident_at (t ∷ ts) = name_by t.symbol
+
+abbrev pub is_empty : List Lexeme → Bool
+is_empty [] = true
+is_empty (t ∷ ts) = false
+
+-- the first lexeme
+abbrev pub first_of : List Lexeme → Option Lexeme
+first_of [] = None
+first_of (t ∷ ts) = Some t
+
+-- the line of the first lexeme, 0 where there is none
+abbrev pub first_line : List Lexeme → ℕ
+first_line [] = 0
+first_line (t ∷ ts) = t.line
 
 -- the lexemes begin with this mark
 abbrev pub begins_with : Mark → List Lexeme → Bool

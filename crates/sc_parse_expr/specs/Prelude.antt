@@ -11,7 +11,8 @@ pub use Rattle.sc_parse_expr.specs.Lexemes.{third_word}
 unfoldable pub use Rattle.sc_parse_expr.specs.Lexemes.{keyword_of, mark_of, says}
 pub use Rattle.sc_parse_expr.specs.Marks.{binary_of, extension_level, extension_of, prefix_of, prefixed}
 pub use Rattle.sc_parse_expr.specs.Prefixes.{Agrees, Fails, IsParse, extension_at, extension_by, following, is_mark}
-pub use Rattle.sc_parse_expr.specs.Prefixes.{begins_with, keyword_at, keyword_by, name_at, name_by, ◌>>=◌}
+pub use Rattle.sc_parse_expr.specs.Prefixes.{begins_with, first_line, first_of, ident_at, keyword_at, keyword_by}
+pub use Rattle.sc_parse_expr.specs.Prefixes.{is_empty, mark_at, mark_by, name_at, name_by, ◌>>=◌}
 pub use Rattle.sc_parse_expr.specs.Reading.{Found, Reader, accessed, extension_within, found, joined_with, lead_by}
 pub use Rattle.sc_parse_expr.specs.Reading.{lead_of, lead_with, leaf_at, leaf_of, level_with, named_with}
 pub use Rattle.sc_parse_expr.specs.Reading.{paren_with, prefix_with, read_expr, read_nested, size_within, turn_with}

@@ -6,6 +6,7 @@
 
 mod fault;
 mod lexeme;
+mod lexemes;
 mod mark;
 mod operator;
 mod parser;
@@ -13,10 +14,9 @@ mod reading;
 mod types;
 
 pub use fault::SyntaxFault;
-pub use lexeme::{
-    Lexeme, Lexemes, Symbol, expect, is_mark, lexemes, name_by, refused, refused_before,
-};
+pub use lexeme::{Lexeme, Symbol};
+pub use lexemes::{Lexemes, begins_with, refused, refused_before, take};
 pub use mark::{Keyword, Mark};
 pub use operator::{Extension, Prefix};
 pub use parser::{Built, one_expr, one_parse, parse_expr, parse_level, parse_unary};
-pub use types::{base_at, keyword_at, name_at, past_int, star_count, type_name_at};
+pub use types::{base_at, name_at, skip_int, take_stars, type_name_at};

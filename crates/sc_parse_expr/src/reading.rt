@@ -12,8 +12,9 @@ use sc_ast::{Ident, Literal};
 use sc_base::Name;
 use sc_lex::{Token, TokenKind, first_words, heading_name, integer_of};
 
+/// The mark that a text is.
 #[tactic(auto, unfolding(crate::specs::Lexemes::mark_of))]
-fn mark_of(text: &[u8]) -> Option<Mark>
+pub fn mark_of(text: &[u8]) -> Option<Mark>
     ensures { result ≡ mark_of text.now }
 {
     match text {
@@ -137,8 +138,9 @@ fn keyword_after_s(rest: &[u8]) -> Option<Keyword>
     }
 }
 
+/// The reserved word that a text is, of those that have a place in the grammar.
 #[tactic(auto, unfolding(crate::specs::Lexemes::keyword_of))]
-fn keyword_of(text: &[u8]) -> Option<Keyword>
+pub fn keyword_of(text: &[u8]) -> Option<Keyword>
     ensures { result ≡ keyword_of text.now }
 {
     let [first, rest @ ..] = text else {
@@ -160,7 +162,8 @@ fn keyword_of(text: &[u8]) -> Option<Keyword>
     }
 }
 
-fn ident_in(text: &[u8]) -> Option<Ident>
+/// The identifier that a text is.
+pub fn ident_in(text: &[u8]) -> Option<Ident>
     ensures { result ≡ ident_in text.now }
 {
     let name = Name::new(text)?;

@@ -1,8 +1,10 @@
 // Expressions and their trees.
+ghost use Rattle.std.specs.Prelude.{◌≤◌};
+
 use sc_ast::print_section;
 use sc_base::Text;
 use sc_lex::{slices_in_order, tokens};
-use sc_parse_expr::{Lexemes, SyntaxFault, lexemes, parse_expr, parse_unary};
+use sc_parse_expr::{Lexemes, SyntaxFault, parse_expr, parse_unary};
 use sc_parse_read::read_trees;
 use std::alloc::Global;
 use std::test::Fail;
@@ -60,10 +62,20 @@ const REFUSED: [(&[u8], usize); 17] = [
     (b"1.5", 1),
 ];
 
-fn lexemes_of(alloc: Global, text: &[u8]) -> Result<Lexemes, Fail> {
+// How many lexemes are left after the expression at the start of a text, after this many brackets.
+fn left_after(alloc: Global, opened: u32, text: &[u8]) -> Result<Result<usize, SyntaxFault>, Fail>
+    requires { opened ≤ 1024 }
+{
     let cut = tokens(alloc, text, 1)?;
     slices_in_order();
-    Ok(lexemes(alloc, text, cut.as_slice())?)
+    let mut rest = Lexemes::new(text, cut.as_slice());
+    match parse_expr(alloc, opened, &mut rest) {
+        Ok(built) => {
+            drop(built);
+            Ok(Ok(rest.len()))
+        }
+        Err(fault) => Ok(Err(fault)),
+    }
 }
 
 // The text of a section in which the expression is assigned.
@@ -120,12 +132,13 @@ fn other_groups_are_other_trees(rt: HostRuntime) -> Result<(), Fail> {
 #[test]
 fn ends_where_nothing_goes_on(rt: HostRuntime) -> Result<(), Fail> {
     for (text, left) in PREFIXES {
-        let lexemes = lexemes_of(rt.alloc(), text)?;
-        let (_, rest) = parse_expr(rt.alloc(), 0, lexemes.as_slice())?;
-        assert_eq!(rt; rest.len(), left);
+        assert_eq!(rt; left_after(rt.alloc(), 0, text)?, Ok(left));
     }
-    let lexemes = lexemes_of(rt.alloc(), b"-a[1]*b")?;
-    let (_, rest) = parse_unary(rt.alloc(), 0, lexemes.as_slice())?;
+    let text = b"-a[1]*b".as_slice();
+    let cut = tokens(rt.alloc(), text, 1)?;
+    slices_in_order();
+    let mut rest = Lexemes::new(text, cut.as_slice());
+    drop(parse_unary(rt.alloc(), 0, &mut rest)?);
     assert_eq!(rt; rest.len(), 2);
     Ok(())
 }
@@ -133,15 +146,16 @@ fn ends_where_nothing_goes_on(rt: HostRuntime) -> Result<(), Fail> {
 #[test]
 fn refuses_at_the_lexeme(rt: HostRuntime) -> Result<(), Fail> {
     for (text, left) in REFUSED {
-        let lexemes = lexemes_of(rt.alloc(), text)?;
-        let fault = parse_expr(rt.alloc(), 0, lexemes.as_slice()).err();
-        assert_eq!(rt; fault, Some(SyntaxFault::Refused { left }));
+        assert_eq!(rt;
+            left_after(rt.alloc(), 0, text)?,
+            Err(SyntaxFault::Refused { left })
+        );
     }
     Ok(())
 }
 
 // So often the one text, then `a`, then so often the other.
-fn around(alloc: Global, prefix: &[u8], count: usize, back: &[u8]) -> Result<Lexemes, Fail> {
+fn around(alloc: Global, prefix: &[u8], count: usize, back: &[u8]) -> Result<Vec<u8>, Fail> {
     let mut text = Vec::new(alloc);
     for _ in 0..count {
         text.extend_from_slice(prefix)?;
@@ -150,7 +164,7 @@ fn around(alloc: Global, prefix: &[u8], count: usize, back: &[u8]) -> Result<Lex
     for _ in 0..count {
         text.extend_from_slice(back)?;
     }
-    lexemes_of(alloc, text.as_slice())
+    Ok(text)
 }
 
 // Two texts round `a`, and how often they may stand there.
@@ -169,26 +183,26 @@ const LIMITS: [(&[u8], usize, &[u8]); 9] = [
 #[test]
 fn stops_at_limits(rt: HostRuntime) -> Result<(), Fail> {
     for (prefix, count, back) in LIMITS {
-        let lexemes = around(rt.alloc(), prefix, count, back)?;
-        assert!(rt; parse_expr(rt.alloc(), 0, lexemes.as_slice()).is_ok());
-        let lexemes = around(rt.alloc(), prefix, count + 1, back)?;
-        assert!(rt; parse_expr(rt.alloc(), 0, lexemes.as_slice()).is_err());
+        let text = around(rt.alloc(), prefix, count, back)?;
+        assert!(rt; left_after(rt.alloc(), 0, &text)?.is_ok());
+        let text = around(rt.alloc(), prefix, count + 1, back)?;
+        assert!(rt; left_after(rt.alloc(), 0, &text)?.is_err());
     }
-    let lexemes = around(rt.alloc(), b"(", 1, b")")?;
-    assert!(rt; parse_expr(rt.alloc(), 1023, lexemes.as_slice()).is_ok());
-    assert!(rt; parse_expr(rt.alloc(), 1024, lexemes.as_slice()).is_err());
+    let text = around(rt.alloc(), b"(", 1, b")")?;
+    assert!(rt; left_after(rt.alloc(), 1023, &text)?.is_ok());
+    assert!(rt; left_after(rt.alloc(), 1024, &text)?.is_err());
     Ok(())
 }
 
 #[test]
 fn refuses_what_goes_on_for_long(rt: HostRuntime) -> Result<(), Fail> {
     for text in [b"a+".as_slice(), b"(", b"-", b"a["] {
-        let part = lexemes_of(rt.alloc(), text)?;
         let mut long = Vec::new(rt.alloc());
         for _ in 0..100_000 {
-            long.extend_from_slice(part.as_slice())?;
+            long.extend_from_slice(text)?;
+            long.push(b' ')?;
         }
-        assert!(rt; parse_expr(rt.alloc(), 0, long.as_slice()).is_err());
+        assert!(rt; left_after(rt.alloc(), 0, &long)?.is_err());
     }
     Ok(())
 }

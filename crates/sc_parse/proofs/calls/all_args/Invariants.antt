@@ -6,6 +6,6 @@ use Rattle.sc_parse.proofs.calls.all_args.Given as goal
 -- what is read is what the rest of the loop reads
 abbrev pub invariant-loop : goal.invariant-loop
 invariant-loop l = separated (following mark.Comma) (add_arg most_brackets l.room)
-    (length l.initial.rest.now + 1) [] l.initial.rest.now ≡
+    (length l.initial.rest + 1) [] l.initial.rest ≡
     separated (following mark.Comma) (add_arg most_brackets l.room)
-    (length l.initial.rest.now + 1 - l.counter) l.args l.rest.now
+    (length l.initial.rest + 1 - l.counter) l.args l.rest

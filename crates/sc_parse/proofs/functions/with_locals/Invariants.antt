@@ -6,6 +6,6 @@ use Rattle.sc_parse.proofs.functions.with_locals.Given as goal
 -- what is read is what the rest of the loop reads
 abbrev pub invariant-loop : goal.invariant-loop
 invariant-loop l = separated (following mark.Comma) (add_local most_brackets most_height l.base l.line)
-    (length l.initial.rest.now + 1) l.initial.locals l.initial.rest.now ≡
+    (length l.initial.rest + 1) l.initial.locals l.initial.rest ≡
     separated (following mark.Comma) (add_local most_brackets most_height l.base l.line)
-    (length l.initial.rest.now + 1 - l.counter) l.locals l.rest.now
+    (length l.initial.rest + 1 - l.counter) l.locals l.rest

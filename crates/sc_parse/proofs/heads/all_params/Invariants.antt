@@ -4,6 +4,6 @@ use Rattle.sc_parse.proofs.heads.all_params.Given as goal
 
 -- what is read is what the rest of the loop reads
 abbrev pub invariant-loop : goal.invariant-loop
-invariant-loop l = separated (following mark.Comma) (adds param_at) (length l.initial.rest.now + 1) []
-    l.initial.rest.now ≡
-    separated (following mark.Comma) (adds param_at) (length l.initial.rest.now + 1 - l.counter) l.params l.rest.now
+invariant-loop l = separated (following mark.Comma) (adds param_at) (length l.initial.rest + 1) []
+    l.initial.rest ≡
+    separated (following mark.Comma) (adds param_at) (length l.initial.rest + 1 - l.counter) l.params l.rest

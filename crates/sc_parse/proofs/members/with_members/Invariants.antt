@@ -5,6 +5,6 @@ use Rattle.sc_parse.proofs.members.with_members.Given as goal
 -- what is read is what the rest of the loop reads
 abbrev pub invariant-loop : goal.invariant-loop
 invariant-loop l = separated (following mark.Comma) (adds (member_at l.base))
-    (length l.initial.rest.now + 1) l.initial.members l.initial.rest.now ≡
+    (length l.initial.rest + 1) l.initial.members l.initial.rest ≡
     separated (following mark.Comma) (adds (member_at l.base))
-    (length l.initial.rest.now + 1 - l.counter) l.members l.rest.now
+    (length l.initial.rest + 1 - l.counter) l.members l.rest

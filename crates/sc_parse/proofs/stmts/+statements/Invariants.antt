@@ -39,9 +39,9 @@ decreases-kind_by l = 9 * l.room + 7
 -- what is read is what the rest of the loop reads
 abbrev pub invariant-stmts_at-loop : goal.invariant-stmts_at-loop
 invariant-stmts_at-loop l = grouped (begins_with mark.CloseCurly) (adds (stmt_at most_brackets l.room))
-    (length l.initial.rest.now + 1) [] l.initial.rest.now ≡
+    (length l.initial.rest + 1) [] l.initial.rest ≡
     grouped (begins_with mark.CloseCurly) (adds (stmt_at most_brackets l.room))
-    (length l.initial.rest.now + 1 - l.counter) l.stmts l.rest.now
+    (length l.initial.rest + 1 - l.counter) l.stmts l.rest
 
 abbrev pub decreases-stmt_within : goal.decreases-stmt_within
 decreases-stmt_within l = 9 * l.room + 8

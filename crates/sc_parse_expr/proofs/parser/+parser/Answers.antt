@@ -8,7 +8,7 @@ parse_level-returns-in_err-left-clause-read t c =
     let room : c.args.room ≡ c.in-Some.below + 1 = grind arith in
     let fault = err_from_is_err_and c.from_residual.result c.from_residual.ensures.1 in
     rw (fault.1, fault.2) (fails_on _ _ _ c.in_err-left.ensures.read
-    (λ none. read_fails c.args.free c.args.room c.in-Some.below c.args.level c.args.lexemes.now room none))
+    (λ none. read_fails c.args.free c.args.room c.in-Some.below c.args.level c.args.rest.now room none))
 
 pub parse_level-loop-init : goal.parse_level-loop-init
 parse_level-loop-init t c =
@@ -16,7 +16,7 @@ parse_level-loop-init t c =
     let low = c.in_ok-left.ensures.low in (
       omega arith,
       read_goes c.args.free c.args.room c.in-Some.below c.args.level
-          (c.args.room - 0) c.args.lexemes.now _ room (omega arith) c.in_ok-left.ensures.read,
+          (c.args.room - 0) c.args.rest.now _ room (omega arith) c.in_ok-left.ensures.read,
     )
 
 pub parse_level-loop-preserved : goal.parse_level-loop-preserved
@@ -27,14 +27,14 @@ parse_level-loop-preserved t c =
       c.loop.invariant.1 ∙ turns_on (read_nested c.args.free)
           (read c.args.free c.in-Some.below) c.in-Some.below c.args.level (c.args.room - c.loop.counter)
           (c.args.room - (c.loop.counter + 1)) _ _ _ _ (omega arith)
-          (sym c.in-Some-extension_within.ensures) c.in_ok-left-2.ensures.read,
+          (sym c.in-Some-take_extension.ensures.found) c.in_ok-left-2.ensures.read,
     )
 
 pub parse_level-returns-in_err-left-2-clause-read : goal.parse_level-returns-in_err-left-2-clause-read
 parse_level-returns-in_err-left-2-clause-read t c =
-    let left = found c.loop.left.tree c.loop.left.height c.loop.rest.now in
+    let left = found c.loop.left.tree c.loop.left.height c.loop.rest in
     let stop = turns_stop (read_nested c.args.free) (read c.args.free c.in-Some.below) c.in-Some.below c.args.level
-    (c.args.room - c.loop.counter) left c.in-Some-extension_within.extension c.in-Some-extension_within.following.now
-    (omega arith) (sym c.in-Some-extension_within.ensures) in
+    (c.args.room - c.loop.counter) left c.in-Some-take_extension.extension c.take_extension.new.rest
+    (omega arith) (sym c.in-Some-take_extension.ensures.found) in
     let fault = err_from_is_err_and c.from_residual-in_err-left-2.result c.from_residual-in_err-left-2.ensures.1 in
     rw (fault.1, fault.2) (fails_on _ _ _ c.in_err-left-2.ensures.read (λ none. c.loop.invariant.1 ∙ stop none))

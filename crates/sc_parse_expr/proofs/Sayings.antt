@@ -1,12 +1,14 @@
 -- Tokens say something.
-use Rattle.sc_parse.proofs.Common.{Bool, IsSpan, List, Mark, None, Option, Some, Symbol, Token, [], ap, arith, bytes_eq}
-use Rattle.sc_parse.proofs.Common.{codes, cond, directive_kind, false, false≢true, get_or, heading_name, ident_in}
-use Rattle.sc_parse.proofs.Common.{import_symbol, integer_of, is_export, is_import, is_integer_constant, is_name}
-use Rattle.sc_parse.proofs.Common.{is_reserved}
-use Rattle.sc_parse.proofs.Common.{is_some, le-leb, leb-false, line_kind, look_up, map, mark_kind, mark_of, mark_texts}
-use Rattle.sc_parse.proofs.Common.{name_of, nat_le, nat_lt, none-some, number_in, option_map, option_or, or_unused}
-use Rattle.sc_parse.proofs.Common.{refl, same_some, says, slice_range, subst, sym, symbol_of, third_word, true}
-use Rattle.sc_parse.proofs.Common.{word_kind, words, ℕ, ◌&&◌, ◌||◌, ◌∙◌, ◌∷◌, ◌≡◌}
+use Rattle.sc_parse_expr.proofs.Common.{Bool, IsSpan, List, Mark, None, Option, Some, Symbol, Token, [], ap, arith}
+use Rattle.sc_parse_expr.proofs.Common.{bytes_eq}
+use Rattle.sc_parse_expr.proofs.Common.{codes, cond, directive_kind, false, false≢true, get_or, heading_name, ident_in}
+use Rattle.sc_parse_expr.proofs.Common.{import_symbol, integer_of, is_export, is_import, is_integer_constant, is_name}
+use Rattle.sc_parse_expr.proofs.Common.{is_reserved}
+use Rattle.sc_parse_expr.proofs.Common.{is_some, le-leb, leb-false, line_kind, look_up, map, mark_kind, mark_of}
+use Rattle.sc_parse_expr.proofs.Common.{mark_texts}
+use Rattle.sc_parse_expr.proofs.Common.{name_of, nat_le, nat_lt, none-some, number_in, option_map, option_or, or_unused}
+use Rattle.sc_parse_expr.proofs.Common.{refl, says, slice_range, subst, sym, symbol_of, third_word, true}
+use Rattle.sc_parse_expr.proofs.Common.{word_kind, words, ℕ, ◌&&◌, ◌||◌, ◌∙◌, ◌∷◌, ◌≡◌}
 use Rattle.sc_lex.specs.Prelude.{is_mark, token_kind}
 use Rattle.std.specs.List.{list_any}
 use Rattle.std.proofs.lemmas.Slice.Eq.{bytes_eq-Decides}
@@ -14,7 +16,12 @@ use Rattle.sc_base.proofs.Bools.{and_first, and_rest}
 use Rattle.sc_lex.specs.declared.token.TokenKind.{TokenKind}
 use Rattle.sc_lex.specs.declared.token.TokenKind.TheVariants as kind
 use Rattle.sc_parse_expr.specs.declared.lexeme.Symbol.TheVariants as symbol
-use Rattle.sc_parse.proofs.Exact.{chosen}
+use Rattle.sc_parse_expr.proofs.Ahead.{same_some}
+
+chosen : {A P : Type 0} (b : Bool) (u v : A) {w : A} → cond b u v ≡ w → (b ≡ true → u ≡ w → P) →
+    (b ≡ false → v ≡ w → P) → P
+chosen true u v h first second = first refl h
+chosen false u v h first second = second refl h
 
 -- a text of this kind says something
 abbrev Speaks : TokenKind → List ℕ → Type 0
