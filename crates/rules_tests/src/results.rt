@@ -124,7 +124,7 @@ fn type_of(alloc: Global, expression: &[u8]) -> Result<Ty, Fail> {
     let main = section.functions.get(0).ok_or("no function")?;
     let stmt = main.body.get(0).ok_or("no statement")?;
     match &stmt.kind {
-        TypedStmtKind::If { cond, .. } => Ok(cond.ty),
+        TypedStmtKind::If { cond, .. } => Ok(cond.get().ty),
         _ => Err("no condition")?,
     }
 }

@@ -10,7 +10,7 @@ pub enum ExprTree {
     /// `7`, `7u`
     Literal(Literal),
     /// `x`
-    Variable(Ident),
+    Variable(Boxed<Ident>),
     /// `-x`
     Unary {
         op: UnaryOp,
@@ -30,19 +30,19 @@ pub enum ExprTree {
     /// `x.m`
     Member {
         base: Boxed<ExprTree>,
-        name: Ident,
+        name: Boxed<Ident>,
     },
     /// `x->m`
     Arrow {
         base: Boxed<ExprTree>,
-        name: Ident,
+        name: Boxed<Ident>,
     },
     /// `*x`
     Deref(Boxed<ExprTree>),
     /// `&x`
     Address(Boxed<ExprTree>),
     /// `sizeof(int *)` (C11 6.5.3.4), of a type alone
-    SizeOf(TypeName),
+    SizeOf(Boxed<TypeName>),
 }
 
 /// Expressions in order, as the arguments of a call.

@@ -8,6 +8,7 @@ ghost use Rattle.std.specs.Prelude.{◌≡◌, ◌+◌};
 use crate::expr::{CallTree, ExprTree, Exprs};
 use crate::section::{Decl, FunctionTree, LocalTree, LocalTrees, SectionTree};
 use crate::stmt::{SimpleKind, SimpleTree, StmtKind, StmtTree, Stmts};
+use sqlite_items::Boxed;
 
 /// The height of an expression, at least 1.
 pub fn expr_height(expr: &ExprTree) -> u32
@@ -56,17 +57,17 @@ fn kind_height(kind: &StmtKind) -> u32
     ensures { result ≡ limited (kind_height kind.now) }
 {
     match kind {
-        StmtKind::Assign { place, value } => expr_height(place.get()).max(expr_height(value)),
-        StmtKind::AssignCall { place, call } => expr_height(place.get()).max(call_height(call)),
-        StmtKind::Call(call) => call_height(call),
+        StmtKind::Assign { place, value } => expr_height(place.get()).max(expr_height(value.get())),
+        StmtKind::AssignCall { place, call } => expr_height(place.get()).max(call_height(call.get())),
+        StmtKind::Call(call) => call_height(call.get()),
         StmtKind::Malloc { place, count, .. } => expr_height(place.get()).max(count_height(count)),
-        StmtKind::Free(pointer) => expr_height(pointer),
+        StmtKind::Free(pointer) => expr_height(pointer.get()),
         StmtKind::If {
             cond,
             then_part,
             else_part,
-        } => expr_height(cond).max(stmts_height(then_part).max(stmts_height(else_part))),
-        StmtKind::While { cond, body } => expr_height(cond).max(stmts_height(body)),
+        } => expr_height(cond.get()).max(stmts_height(then_part).max(stmts_height(else_part))),
+        StmtKind::While { cond, body } => expr_height(cond.get()).max(stmts_height(body)),
         StmtKind::For {
             first,
             cond,
@@ -74,9 +75,9 @@ fn kind_height(kind: &StmtKind) -> u32
             body,
         } => option_height(first)
             .max(option_height(next))
-            .max(expr_height(cond).max(stmts_height(body))),
-        StmtKind::ReturnValue(value) => expr_height(value),
-        StmtKind::ReturnCall(call) => call_height(call),
+            .max(expr_height(cond.get()).max(stmts_height(body))),
+        StmtKind::ReturnValue(value) => expr_height(value.get()),
+        StmtKind::ReturnCall(call) => call_height(call.get()),
         _ => 0,
     }
 }
@@ -132,12 +133,12 @@ fn init_height(init: &Option<ExprTree>) -> u32
     }
 }
 
-fn option_height(simple: &Option<SimpleTree>) -> u32
+fn option_height(simple: &Option<Boxed<SimpleTree>>) -> u32
     ensures { result ≡ limited (option_height simple.now) }
 {
     match simple {
         None => 0,
-        Some(simple) => one_more(simple_kind_height(simple.kind.get())),
+        Some(simple) => one_more(simple_kind_height(&simple.get().kind)),
     }
 }
 
@@ -145,22 +146,22 @@ fn simple_kind_height(kind: &SimpleKind) -> u32
     ensures { result ≡ limited (simple_kind_height kind.now) }
 {
     match kind {
-        SimpleKind::Assign { place, value } => expr_height(place.get()).max(expr_height(value)),
-        SimpleKind::AssignCall { place, call } => expr_height(place.get()).max(call_height(call)),
-        SimpleKind::Call(call) => call_height(call),
+        SimpleKind::Assign { place, value } => expr_height(place.get()).max(expr_height(value.get())),
+        SimpleKind::AssignCall { place, call } => expr_height(place.get()).max(call_height(call.get())),
+        SimpleKind::Call(call) => call_height(call.get()),
         SimpleKind::Malloc { place, count, .. } => {
             expr_height(place.get()).max(count_height(count))
         }
-        SimpleKind::Free(pointer) => expr_height(pointer),
+        SimpleKind::Free(pointer) => expr_height(pointer.get()),
     }
 }
 
-fn count_height(count: &Option<ExprTree>) -> u32
+fn count_height(count: &Option<Boxed<ExprTree>>) -> u32
     ensures { result ≡ limited (count_height count.now) }
 {
     match count {
         None => 0,
-        Some(count) => expr_height(count),
+        Some(count) => expr_height(count.get()),
     }
 }
 

@@ -2,12 +2,13 @@ ghost use Rattle.std.specs.Prelude.{◌≡◌, IsTrue};
 ghost use Rattle.sc_ast.specs.Places.{is_place, place_of};
 
 use crate::expr::ExprTree;
+use sqlite_items::Boxed;
 use std::marker::Model;
 
 /// An expression that names a place: a variable, an index, a member, an arrow or a `*`. Contracts see the expression.
 #[derive(Drop)]
 pub struct PlaceTree {
-    expr: ExprTree,
+    expr: Boxed<ExprTree>,
 }
 
 impl Model for PlaceTree {
@@ -30,10 +31,10 @@ impl Model for PlaceTree {
 
 impl PlaceTree {
     /// The expression as a place; one that names no place is handed back.
-    pub fn new(expr: ExprTree) -> Result<PlaceTree, ExprTree>
+    pub fn new(expr: Boxed<ExprTree>) -> Result<PlaceTree, Boxed<ExprTree>>
         ensures { result ≡ place_of expr }
     {
-        if is_place(&expr) {
+        if is_place(expr.get()) {
             Ok(PlaceTree { expr })
         } else {
             Err(expr)
@@ -45,7 +46,7 @@ impl PlaceTree {
         ensures value { result.now ≡ self.now }
         ensures place { IsTrue (is_place self.now) }
     {
-        &self.expr
+        self.expr.get()
     }
 }
 

@@ -23,39 +23,39 @@ pub enum StmtKind {
     /// `x = e;`
     Assign {
         place: PlaceTree,
-        value: ExprTree,
+        value: Boxed<ExprTree>,
     },
     /// `x = f(e);`
     AssignCall {
         place: PlaceTree,
-        call: CallTree,
+        call: Boxed<CallTree>,
     },
     /// `f(e);`
-    Call(CallTree),
+    Call(Boxed<CallTree>),
     /// `x = malloc(e * sizeof(int));`, or `x = malloc(sizeof(int));` without a count (C11 7.22.3.4)
     Malloc {
         place: PlaceTree,
-        count: Option<ExprTree>,
-        of: TypeName,
+        count: Option<Boxed<ExprTree>>,
+        of: Boxed<TypeName>,
     },
     /// `free(e);` (C11 7.22.3.3)
-    Free(ExprTree),
+    Free(Boxed<ExprTree>),
     /// `if (e) { .. } else { .. }`; without `else` the last part is empty, and `else if` is a list of one `If`.
     If {
-        cond: ExprTree,
+        cond: Boxed<ExprTree>,
         then_part: Stmts,
         else_part: Stmts,
     },
     /// `while (e) { .. }`
     While {
-        cond: ExprTree,
+        cond: Boxed<ExprTree>,
         body: Stmts,
     },
     /// `for (x = e; e; x = e) { .. }`; an absent condition is the literal 1.
     For {
-        first: Option<SimpleTree>,
-        cond: ExprTree,
-        next: Option<SimpleTree>,
+        first: Option<Boxed<SimpleTree>>,
+        cond: Boxed<ExprTree>,
+        next: Option<Boxed<SimpleTree>>,
         body: Stmts,
     },
     /// `break;`
@@ -65,9 +65,9 @@ pub enum StmtKind {
     /// `return;`
     Return,
     /// `return e;`
-    ReturnValue(ExprTree),
+    ReturnValue(Boxed<ExprTree>),
     /// `return f(e);`
-    ReturnCall(CallTree),
+    ReturnCall(Boxed<CallTree>),
 }
 
 /// Statements in order, as the body of a loop.
@@ -77,7 +77,7 @@ pub type Stmts = Items<StmtTree>;
 #[derive(Drop)]
 pub struct SimpleTree {
     pub line: u32,
-    pub kind: Boxed<SimpleKind>,
+    pub kind: SimpleKind,
 }
 
 /// The statements that may stand in the head of a `for`; each is a kind of statement of the same name.
@@ -86,23 +86,23 @@ pub enum SimpleKind {
     /// `x = e`
     Assign {
         place: PlaceTree,
-        value: ExprTree,
+        value: Boxed<ExprTree>,
     },
     /// `x = f(e)`
     AssignCall {
         place: PlaceTree,
-        call: CallTree,
+        call: Boxed<CallTree>,
     },
     /// `f(e)`
-    Call(CallTree),
+    Call(Boxed<CallTree>),
     /// `x = malloc(e * sizeof(int))`
     Malloc {
         place: PlaceTree,
-        count: Option<ExprTree>,
-        of: TypeName,
+        count: Option<Boxed<ExprTree>>,
+        of: Boxed<TypeName>,
     },
     /// `free(e)`
-    Free(ExprTree),
+    Free(Boxed<ExprTree>),
 }
 
 impl SimpleTree {
@@ -111,7 +111,7 @@ impl SimpleTree {
         ensures { result ≡ stmt_of self }
     {
         let SimpleTree { line, kind } = self;
-        let kind = match kind.into_inner() {
+        let kind = match kind {
             SimpleKind::Assign { place, value } => StmtKind::Assign { place, value },
             SimpleKind::AssignCall { place, call } => StmtKind::AssignCall { place, call },
             SimpleKind::Call(call) => StmtKind::Call(call),

@@ -2,12 +2,13 @@ ghost use Rattle.std.specs.Prelude.{◌≡◌, IsTrue};
 ghost use Rattle.sc_core.specs.Places.{is_place, place_of};
 
 use crate::expr::{TypedExpr, TypedKind};
+use sqlite_items::Boxed;
 use std::marker::Model;
 
 /// An expression that names a place: a variable, an index, a member, an arrow or a `*`. Contracts see the expression.
 #[derive(Drop)]
 pub struct TypedPlace {
-    expr: TypedExpr,
+    expr: Boxed<TypedExpr>,
 }
 
 impl Model for TypedPlace {
@@ -30,10 +31,10 @@ impl Model for TypedPlace {
 
 impl TypedPlace {
     /// The expression as a place; one that names no place is handed back.
-    pub fn new(expr: TypedExpr) -> Result<TypedPlace, TypedExpr>
+    pub fn new(expr: Boxed<TypedExpr>) -> Result<TypedPlace, Boxed<TypedExpr>>
         ensures { result ≡ place_of expr }
     {
-        if is_place(&expr) {
+        if is_place(expr.get()) {
             Ok(TypedPlace { expr })
         } else {
             Err(expr)
@@ -45,7 +46,7 @@ impl TypedPlace {
         ensures value { result.now ≡ self.now }
         ensures place { IsTrue (is_place self.now) }
     {
-        &self.expr
+        self.expr.get()
     }
 }
 

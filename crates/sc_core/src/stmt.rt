@@ -1,6 +1,6 @@
 use crate::expr::{TypedCall, TypedExpr};
 use crate::place::TypedPlace;
-use sqlite_items::Items;
+use sqlite_items::{Boxed, Items};
 
 /// A statement (C11 6.8) and the line, counted in its section, at which it begins.
 #[cycle(stmt)]
@@ -19,39 +19,39 @@ pub enum TypedStmtKind {
     /// `x = e;`
     Assign {
         place: TypedPlace,
-        value: TypedExpr,
+        value: Boxed<TypedExpr>,
     },
     /// `x = f(e);`
     AssignCall {
         place: TypedPlace,
-        call: TypedCall,
+        call: Boxed<TypedCall>,
     },
     /// `f(e);`
-    Call(TypedCall),
+    Call(Boxed<TypedCall>),
     /// `x = malloc(e * sizeof(int));`, or without a count; one element has `cells` cells (C11 7.22.3.4).
     Malloc {
         place: TypedPlace,
-        count: Option<TypedExpr>,
+        count: Option<Boxed<TypedExpr>>,
         cells: u32,
     },
     /// `free(e);` (C11 7.22.3.3); a literal of value 0 has the type `int *`.
-    Free(TypedExpr),
+    Free(Boxed<TypedExpr>),
     /// `if (e) { .. } else { .. }`; without `else` the last part is empty.
     If {
-        cond: TypedExpr,
+        cond: Boxed<TypedExpr>,
         then_part: TypedStmts,
         else_part: TypedStmts,
     },
     /// `while (e) { .. }`
     While {
-        cond: TypedExpr,
+        cond: Boxed<TypedExpr>,
         body: TypedStmts,
     },
     /// `for (x = e; e; x = e) { .. }`; an absent condition is the literal 1.
     For {
-        first: Option<TypedSimple>,
-        cond: TypedExpr,
-        next: Option<TypedSimple>,
+        first: Option<Boxed<TypedSimple>>,
+        cond: Boxed<TypedExpr>,
+        next: Option<Boxed<TypedSimple>>,
         body: TypedStmts,
     },
     /// `break;`
@@ -61,9 +61,9 @@ pub enum TypedStmtKind {
     /// `return;`
     Return,
     /// `return e;`
-    ReturnValue(TypedExpr),
+    ReturnValue(Boxed<TypedExpr>),
     /// `return f(e);`
-    ReturnCall(TypedCall),
+    ReturnCall(Boxed<TypedCall>),
 }
 
 /// Statements in order, as the body of a loop.
@@ -82,21 +82,21 @@ pub enum TypedSimpleKind {
     /// `x = e`
     Assign {
         place: TypedPlace,
-        value: TypedExpr,
+        value: Boxed<TypedExpr>,
     },
     /// `x = f(e)`
     AssignCall {
         place: TypedPlace,
-        call: TypedCall,
+        call: Boxed<TypedCall>,
     },
     /// `f(e)`
-    Call(TypedCall),
+    Call(Boxed<TypedCall>),
     /// `x = malloc(e * sizeof(int))`
     Malloc {
         place: TypedPlace,
-        count: Option<TypedExpr>,
+        count: Option<Boxed<TypedExpr>>,
         cells: u32,
     },
     /// `free(e)`
-    Free(TypedExpr),
+    Free(Boxed<TypedExpr>),
 }

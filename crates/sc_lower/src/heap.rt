@@ -10,13 +10,14 @@ use crate::expr::{lower_expr, lower_store};
 use sc_base::OutOfMemory;
 use sc_core::{TypedExpr, TypedPlace, Want};
 use sc_tac::{Constant, TacStmt};
+use sqlite_items::Boxed;
 use std::alloc::Global;
 
 // The number of elements: one where none stands.
 fn lower_count(
     alloc: Global,
     scope: &Scope,
-    count: &Option<TypedExpr>,
+    count: &Option<Boxed<TypedExpr>>,
     free: u32,
 ) -> Result<Code, OutOfMemory>
     requires fits { free + suc (count_nodes count.now) ≤ most_nodes }
@@ -33,7 +34,7 @@ fn lower_count(
             };
             lone(alloc, stmt, free)
         }
-        Some(count) => lower_expr(alloc, scope, Want::Value, count, free),
+        Some(count) => lower_expr(alloc, scope, Want::Value, count.get(), free),
     }
 }
 
@@ -58,7 +59,7 @@ pub fn lower_malloc(
     alloc: Global,
     scope: &Scope,
     place: &TypedPlace,
-    count: &Option<TypedExpr>,
+    count: &Option<Boxed<TypedExpr>>,
     cells: u32,
     free: u32,
 ) -> Result<Fragment, OutOfMemory>

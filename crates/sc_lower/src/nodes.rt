@@ -8,6 +8,7 @@ use sc_core::{
     TypedCall, TypedExpr, TypedFunction, TypedKind, TypedLocal, TypedLocals, TypedSimple,
     TypedSimpleKind, TypedStmt, TypedStmtKind, TypedStmts,
 };
+use sqlite_items::Boxed;
 
 fn expr_nodes(expr: &TypedExpr) -> u32
     requires { expr_nodes expr.now ≤ most_nodes }
@@ -40,13 +41,13 @@ fn call_nodes(call: &TypedCall) -> u32
     count
 }
 
-fn count_nodes(count: &Option<TypedExpr>) -> u32
+fn count_nodes(count: &Option<Boxed<TypedExpr>>) -> u32
     requires { count_nodes count.now ≤ most_nodes }
     ensures { result ≡ count_nodes count.now }
 {
     match count {
         None => 0,
-        Some(count) => expr_nodes(count),
+        Some(count) => expr_nodes(count.get()),
     }
 }
 
@@ -56,26 +57,26 @@ fn simple_nodes(kind: &TypedSimpleKind) -> u32
 {
     match kind {
         TypedSimpleKind::Assign { place, value } => {
-            1 + expr_nodes(place.get()) + expr_nodes(value)
+            1 + expr_nodes(place.get()) + expr_nodes(value.get())
         }
         TypedSimpleKind::AssignCall { place, call } => {
-            1 + expr_nodes(place.get()) + call_nodes(call)
+            1 + expr_nodes(place.get()) + call_nodes(call.get())
         }
-        TypedSimpleKind::Call(call) => 1 + call_nodes(call),
+        TypedSimpleKind::Call(call) => 1 + call_nodes(call.get()),
         TypedSimpleKind::Malloc { place, count, .. } => {
             1 + expr_nodes(place.get()) + count_nodes(count)
         }
-        TypedSimpleKind::Free(pointer) => 1 + expr_nodes(pointer),
+        TypedSimpleKind::Free(pointer) => 1 + expr_nodes(pointer.get()),
     }
 }
 
-fn part_nodes(part: &Option<TypedSimple>) -> u32
+fn part_nodes(part: &Option<Boxed<TypedSimple>>) -> u32
     requires { part_nodes part.now ≤ most_nodes }
     ensures { result ≡ part_nodes part.now }
 {
     match part {
         None => 0,
-        Some(simple) => simple_nodes(&simple.kind),
+        Some(simple) => simple_nodes(&simple.get().kind),
     }
 }
 
@@ -98,33 +99,33 @@ fn stmt_nodes(stmt: &TypedStmt) -> u32
 {
     match &stmt.kind {
         TypedStmtKind::Assign { place, value } => {
-            1 + expr_nodes(place.get()) + expr_nodes(value)
+            1 + expr_nodes(place.get()) + expr_nodes(value.get())
         }
         TypedStmtKind::AssignCall { place, call } => {
-            1 + expr_nodes(place.get()) + call_nodes(call)
+            1 + expr_nodes(place.get()) + call_nodes(call.get())
         }
-        TypedStmtKind::Call(call) => 1 + call_nodes(call),
+        TypedStmtKind::Call(call) => 1 + call_nodes(call.get()),
         TypedStmtKind::Malloc { place, count, .. } => {
             1 + expr_nodes(place.get()) + count_nodes(count)
         }
-        TypedStmtKind::Free(pointer) => 1 + expr_nodes(pointer),
+        TypedStmtKind::Free(pointer) => 1 + expr_nodes(pointer.get()),
         TypedStmtKind::If {
             cond,
             then_part,
             else_part,
-        } => { 1 + expr_nodes(cond) + stmts_nodes(then_part) + stmts_nodes(else_part) }
-        TypedStmtKind::While { cond, body } => 1 + expr_nodes(cond) + stmts_nodes(body),
+        } => { 1 + expr_nodes(cond.get()) + stmts_nodes(then_part) + stmts_nodes(else_part) }
+        TypedStmtKind::While { cond, body } => 1 + expr_nodes(cond.get()) + stmts_nodes(body),
         TypedStmtKind::For {
             first,
             cond,
             next,
             body,
         } => {
-            let head = part_nodes(first) + expr_nodes(cond) + part_nodes(next);
+            let head = part_nodes(first) + expr_nodes(cond.get()) + part_nodes(next);
             1 + head + stmts_nodes(body)
         }
-        TypedStmtKind::ReturnValue(value) => 1 + expr_nodes(value),
-        TypedStmtKind::ReturnCall(call) => 1 + call_nodes(call),
+        TypedStmtKind::ReturnValue(value) => 1 + expr_nodes(value.get()),
+        TypedStmtKind::ReturnCall(call) => 1 + call_nodes(call.get()),
         _ => 1,
     }
 }

@@ -16,6 +16,7 @@ use sc_core::{
     TypedExpr, TypedPlace, TypedSimple, TypedSimpleKind, TypedStmt, TypedStmtKind, TypedStmts, Want,
 };
 use sc_tac::{TacStmt, TacStmts};
+use sqlite_items::Boxed;
 use std::alloc::Global;
 
 // A value that is assigned.
@@ -94,15 +95,15 @@ fn lower_simple(
     ensures few { IfOk result (λ fragment. fragment.next ≤ free + simple_nodes kind.now) }
 {
     match kind {
-        TypedSimpleKind::Assign { place, value } => lower_assign(alloc, scope, place, value, free),
-        TypedSimpleKind::AssignCall { place, call } => store_call(alloc, scope, place, call, free),
-        TypedSimpleKind::Call(call) => lower_call(alloc, scope, call, free),
+        TypedSimpleKind::Assign { place, value } => lower_assign(alloc, scope, place, value.get(), free),
+        TypedSimpleKind::AssignCall { place, call } => store_call(alloc, scope, place, call.get(), free),
+        TypedSimpleKind::Call(call) => lower_call(alloc, scope, call.get(), free),
         TypedSimpleKind::Malloc {
             place,
             count,
             cells,
         } => lower_malloc(alloc, scope, place, count, *cells, free),
-        TypedSimpleKind::Free(pointer) => lower_free(alloc, scope, pointer, free),
+        TypedSimpleKind::Free(pointer) => lower_free(alloc, scope, pointer.get(), free),
     }
 }
 
@@ -110,7 +111,7 @@ fn lower_simple(
 fn lower_part(
     alloc: Global,
     scope: &Scope,
-    part: &Option<TypedSimple>,
+    part: &Option<Boxed<TypedSimple>>,
     free: u32,
 ) -> Result<Fragment, OutOfMemory>
     requires fits { free + part_nodes part.now ≤ most_nodes }
@@ -121,7 +122,7 @@ fn lower_part(
 {
     match part {
         None => Ok(nothing(alloc, free)),
-        Some(simple) => lower_simple(alloc, scope, &simple.kind, free),
+        Some(simple) => lower_simple(alloc, scope, &simple.get().kind, free),
     }
 }
 
@@ -207,27 +208,27 @@ fn lower_stmt(
 {
     match &stmt.kind {
         TypedStmtKind::Empty => Ok(nothing(alloc, free)),
-        TypedStmtKind::Assign { place, value } => lower_assign(alloc, scope, place, value, free),
-        TypedStmtKind::AssignCall { place, call } => store_call(alloc, scope, place, call, free),
-        TypedStmtKind::Call(call) => lower_call(alloc, scope, call, free),
+        TypedStmtKind::Assign { place, value } => lower_assign(alloc, scope, place, value.get(), free),
+        TypedStmtKind::AssignCall { place, call } => store_call(alloc, scope, place, call.get(), free),
+        TypedStmtKind::Call(call) => lower_call(alloc, scope, call.get(), free),
         TypedStmtKind::Malloc {
             place,
             count,
             cells,
         } => lower_malloc(alloc, scope, place, count, *cells, free),
-        TypedStmtKind::Free(pointer) => lower_free(alloc, scope, pointer, free),
+        TypedStmtKind::Free(pointer) => lower_free(alloc, scope, pointer.get(), free),
         TypedStmtKind::If {
             cond,
             then_part,
             else_part,
         } => {
-            let cond = lower_expr(alloc, scope, Want::Value, cond, free)?;
+            let cond = lower_expr(alloc, scope, Want::Value, cond.get(), free)?;
             let first = lower_stmts(alloc, scope, then_part, cond.next)?;
             let second = lower_stmts(alloc, scope, else_part, first.next)?;
             forked(cond, first, second)
         }
         TypedStmtKind::While { cond, body } => {
-            let head = lower_test(alloc, scope, cond, free)?;
+            let head = lower_test(alloc, scope, cond.get(), free)?;
             let body = lower_stmts(alloc, scope, body, head.next)?;
             let next = nothing(alloc, body.next);
             looped(TacStmts::new(alloc), head.stmts, body.stmts, next)
@@ -239,7 +240,7 @@ fn lower_stmt(
             body,
         } => {
             let first = lower_part(alloc, scope, first, free)?;
-            let head = lower_test(alloc, scope, cond, first.next)?;
+            let head = lower_test(alloc, scope, cond.get(), first.next)?;
             let body = lower_stmts(alloc, scope, body, head.next)?;
             let next = lower_part(alloc, scope, next, body.next)?;
             looped(first.stmts, head.stmts, body.stmts, next)
@@ -247,7 +248,7 @@ fn lower_stmt(
         TypedStmtKind::Break => single(alloc, TacStmt::Break, free),
         TypedStmtKind::Continue => single(alloc, TacStmt::Continue, free),
         TypedStmtKind::Return => single(alloc, TacStmt::Return { value: None }, free),
-        TypedStmtKind::ReturnValue(value) => lower_return(alloc, scope, value, free),
-        TypedStmtKind::ReturnCall(call) => lower_return_call(alloc, scope, call, free),
+        TypedStmtKind::ReturnValue(value) => lower_return(alloc, scope, value.get(), free),
+        TypedStmtKind::ReturnCall(call) => lower_return_call(alloc, scope, call.get(), free),
     }
 }

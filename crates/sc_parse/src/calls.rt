@@ -11,16 +11,20 @@ use sc_base::{LOOSEST, MAX_BRACKETS};
 use sc_parse_expr::{
     Built, Lexemes, Mark, SyntaxFault, begins_with, name_at, parse_level, refused, take,
 };
-use sqlite_items::Items;
+use sqlite_items::{Boxed, Items};
 use std::alloc::Global;
 
 /// An expression, at most `room` high.
 #[tactic(auto, unfolding(crate::specs::StmtReaders::expr_at))]
-pub fn expr_at(alloc: Global, room: u32, rest: &mut Lexemes<'_>) -> Result<ExprTree, SyntaxFault>
+pub fn expr_at(
+    alloc: Global,
+    room: u32,
+    rest: &mut Lexemes<'_>,
+) -> Result<Boxed<ExprTree>, SyntaxFault>
     ensures { Agrees (λ x. (x, rest.new)) result (expr_at most_brackets room rest.old) }
 {
     let Built { tree, .. } = parse_level(alloc, MAX_BRACKETS, room, LOOSEST, rest)?;
-    Ok(tree.into_inner())
+    Ok(tree)
 }
 
 #[tactic(auto, unfolding(crate::specs::Readers::adds))]
@@ -32,7 +36,7 @@ fn with_arg(
 ) -> Result<Exprs, SyntaxFault>
     ensures { Agrees (λ x. (x, rest.new)) result (add_arg most_brackets room args rest.old) }
 {
-    args.push(expr_at(alloc, room, rest)?)?;
+    args.push(expr_at(alloc, room, rest)?.into_inner())?;
     Ok(args)
 }
 
@@ -71,12 +75,16 @@ fn args_in_parens(alloc: Global, room: u32, rest: &mut Lexemes<'_>) -> Result<Ex
 
 /// A call, whose arguments are at most `room` high.
 #[tactic(auto, unfolding(crate::specs::StmtReaders::call_at))]
-pub fn call_at(alloc: Global, room: u32, rest: &mut Lexemes<'_>) -> Result<CallTree, SyntaxFault>
+pub fn call_at(
+    alloc: Global,
+    room: u32,
+    rest: &mut Lexemes<'_>,
+) -> Result<Boxed<CallTree>, SyntaxFault>
     ensures { Agrees (λ x. (x, rest.new)) result (call_at most_brackets room rest.old) }
 {
     let name = name_at(rest)?;
     let args = args_in_parens(alloc, room, rest)?;
-    Ok(CallTree { name, args })
+    Ok(Boxed::new(alloc, CallTree { name, args })?)
 }
 
 /// A condition in its parentheses.
@@ -85,7 +93,7 @@ pub fn condition_at(
     alloc: Global,
     room: u32,
     rest: &mut Lexemes<'_>,
-) -> Result<ExprTree, SyntaxFault>
+) -> Result<Boxed<ExprTree>, SyntaxFault>
     ensures { Agrees (λ x. (x, rest.new)) result (condition_at most_brackets room rest.old) }
 {
     take(Mark::OpenParen, rest)?;

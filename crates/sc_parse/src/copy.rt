@@ -13,7 +13,7 @@ pub fn copy_expr(alloc: Global, expr: &ExprTree) -> Result<ExprTree, AllocError>
 {
     match expr {
         ExprTree::Literal(literal) => Ok(ExprTree::Literal(*literal)),
-        ExprTree::Variable(name) => Ok(ExprTree::Variable(*name)),
+        ExprTree::Variable(name) => Ok(ExprTree::Variable(Boxed::new(alloc, *name.get())?)),
         ExprTree::Unary { op, of } => Ok(ExprTree::Unary {
             op: *op,
             of: copy_boxed(alloc, of)?,
@@ -29,15 +29,15 @@ pub fn copy_expr(alloc: Global, expr: &ExprTree) -> Result<ExprTree, AllocError>
         }),
         ExprTree::Member { base, name } => Ok(ExprTree::Member {
             base: copy_boxed(alloc, base)?,
-            name: *name,
+            name: Boxed::new(alloc, *name.get())?,
         }),
         ExprTree::Arrow { base, name } => Ok(ExprTree::Arrow {
             base: copy_boxed(alloc, base)?,
-            name: *name,
+            name: Boxed::new(alloc, *name.get())?,
         }),
         ExprTree::Deref(of) => Ok(ExprTree::Deref(copy_boxed(alloc, of)?)),
         ExprTree::Address(of) => Ok(ExprTree::Address(copy_boxed(alloc, of)?)),
-        ExprTree::SizeOf(of) => Ok(ExprTree::SizeOf(*of)),
+        ExprTree::SizeOf(of) => Ok(ExprTree::SizeOf(Boxed::new(alloc, *of.get())?)),
     }
 }
 

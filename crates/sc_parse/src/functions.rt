@@ -24,7 +24,7 @@ fn value_at(alloc: Global, rest: &mut Lexemes<'_>) -> Result<Option<ExprTree>, S
     ensures { Agrees (λ x. (x, rest.new)) result (value_at most_brackets most_height rest.old) }
 {
     if skip(Mark::Equal, rest) {
-        Ok(Some(expr_at(alloc, MAX_HEIGHT, rest)?))
+        Ok(Some(expr_at(alloc, MAX_HEIGHT, rest)?.into_inner()))
     } else {
         Ok(None)
     }

@@ -9,6 +9,7 @@ use crate::calls::condition_at;
 use sc_ast::{ExprTree, PlaceTree, SimpleKind, TypeName};
 use sc_base::BinaryOp;
 use sc_parse_expr::{Keyword, Lexemes, SyntaxFault, refused_before};
+use sqlite_items::Boxed;
 use std::alloc::Global;
 
 /// Whether the word is `malloc`.
@@ -25,41 +26,45 @@ pub fn is_free(word: Option<Keyword>) -> bool
     matches!(word, Some(Keyword::Free))
 }
 
-fn sized_type(expr: &ExprTree) -> Option<TypeName>
-    ensures { result ≡ sized_type expr.now }
+fn sized_type(expr: ExprTree) -> Option<Boxed<TypeName>>
+    ensures { result ≡ sized_type expr }
 {
     match expr {
-        ExprTree::SizeOf(of) => Some(*of),
-        _ => None,
+        ExprTree::SizeOf(of) => Some(of),
+        other => {
+            drop(other);
+            None
+        }
     }
 }
 
 // The count and the type of a product.
 fn product_by(
     op: BinaryOp,
-    count: ExprTree,
-    of: Option<TypeName>,
-) -> Option<(Option<ExprTree>, TypeName)>
+    count: Boxed<ExprTree>,
+    of: Option<Boxed<TypeName>>,
+) -> Option<(Option<Boxed<ExprTree>>, Boxed<TypeName>)>
     ensures { result ≡ product_by op count of }
 {
     match (op, of) {
         (BinaryOp::Mul, Some(of)) => Some((Some(count), of)),
-        _ => {
+        (_, of) => {
             drop(count);
+            drop(of);
             None
         }
     }
 }
 
 // The count, if there is one, and the type of an argument of `malloc`.
-fn malloc_of(argument: ExprTree) -> Option<(Option<ExprTree>, TypeName)>
+fn malloc_of(argument: ExprTree) -> Option<(Option<Boxed<ExprTree>>, Boxed<TypeName>)>
     ensures { result ≡ malloc_of argument }
 {
     match argument {
         ExprTree::SizeOf(of) => Some((None, of)),
         ExprTree::Binary { op, left, right } => {
-            let of = sized_type(right.get());
-            product_by(op, left.into_inner(), of)
+            let of = sized_type(right.into_inner());
+            product_by(op, left, of)
         }
         other => {
             drop(other);
@@ -80,7 +85,7 @@ pub fn allocated_at(
     ensures { Agrees (λ x. (x, rest.new)) result (allocated_at most_brackets room place rest.old) }
 {
     let argument = condition_at(alloc, room + 1, rest)?;
-    match malloc_of(argument) {
+    match malloc_of(argument.into_inner()) {
         Some((count, of)) => Ok(SimpleKind::Malloc { place, count, of }),
         None => {
             drop(place);

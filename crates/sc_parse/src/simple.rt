@@ -8,6 +8,8 @@ ghost use Rattle.sc_parse.specs.Prelude.{unfreed, unstepped, updates, value_assi
 ghost use Rattle.std.specs.Prelude.{◌≡◌, ◌≤◌, ◌<◌, ◌+◌, drop, length, IsSome, IfOk, Some};
 ghost use Rattle.sc_parse.specs.Statements.{one};
 ghost use Rattle.sc_parse.specs.StmtReaders.{step_before};
+ghost use Rattle.sc_ast.specs.declared.expr.ExprTree;
+ghost use Rattle.std.specs.Option.{option_map};
 
 use crate::calls::{call_at, expr_at};
 use crate::copy::copy_expr;
@@ -131,7 +133,7 @@ fn place_at(alloc: Global, room: u32, rest: &mut Lexemes<'_>) -> Result<Placed, 
         return Err(refused(rest));
     }
     let Built { tree, height } = parse_level(alloc, MAX_BRACKETS, room, UNARY, rest)?;
-    match PlaceTree::new(tree.into_inner()) {
+    match PlaceTree::new(tree) {
         Ok(place) => Ok(Placed { place, height }),
         Err(_) => Err(refused(rest)),
     }
@@ -178,21 +180,26 @@ fn updates(
     alloc: Global,
     op: BinaryOp,
     place: PlaceTree,
-    operand: ExprTree,
+    operand: Boxed<ExprTree>,
 ) -> Result<SimpleKind, AllocError>
     ensures { IfOk result (λ kind. kind ≡ updates op place operand) }
 {
     let left = Boxed::new(alloc, copy_expr(alloc, place.get())?)?;
-    let right = Boxed::new(alloc, operand)?;
-    let value = ExprTree::Binary { op, left, right };
+    let value = Boxed::new(
+        alloc,
+        ExprTree::Binary {
+            op,
+            left,
+            right: operand,
+        },
+    )?;
     Ok(SimpleKind::Assign { place, value })
 }
 
-fn one() -> Option<ExprTree>
-    ensures { result ≡ Some one }
+fn one() -> Option<Literal>
+    ensures { option_map ExprTree.Literal result ≡ Some one }
 {
-    let literal = Literal::new(1, false)?;
-    Some(ExprTree::Literal(literal))
+    Literal::new(1, false)
 }
 
 #[tactic(auto, unfolding(crate::specs::StmtReaders::operand_at))]
@@ -226,7 +233,10 @@ fn stepped(
         return Err(refused_before(rest));
     }
     match one() {
-        Some(one) => Ok(updates(alloc, op, placed.place, one)?),
+        Some(one) => {
+            let one = Boxed::new(alloc, ExprTree::Literal(one))?;
+            Ok(updates(alloc, op, placed.place, one)?)
+        }
         None => Err(refused(rest)),
     }
 }
@@ -345,7 +355,7 @@ pub fn part_at(
     room: u32,
     ends: Mark,
     rest: &mut Lexemes<'_>,
-) -> Result<Option<SimpleTree>, SyntaxFault>
+) -> Result<Option<Boxed<SimpleTree>>, SyntaxFault>
     ensures { Agrees (λ x. (x, rest.new)) result (part_at most_brackets room ends rest.old) }
 {
     if begins_with(ends, rest) {
@@ -355,29 +365,33 @@ pub fn part_at(
         return Err(refused(rest));
     }
     let line = rest.line();
-    let kind = Boxed::new(alloc, simple_at(alloc, room - 1, rest)?)?;
-    Ok(Some(SimpleTree { line, kind }))
+    let kind = simple_at(alloc, room - 1, rest)?;
+    Ok(Some(Boxed::new(alloc, SimpleTree { line, kind })?))
 }
 
-fn always(room: u32, rest: &Lexemes<'_>) -> Result<ExprTree, SyntaxFault>
+fn always(alloc: Global, room: u32, rest: &Lexemes<'_>) -> Result<Boxed<ExprTree>, SyntaxFault>
     ensures { Agrees (λ x. (x, rest.now)) result (always room rest.now) }
 {
     if room < 1 {
         return Err(refused(rest));
     }
     match one() {
-        Some(one) => Ok(one),
+        Some(one) => Ok(Boxed::new(alloc, ExprTree::Literal(one))?),
         None => Err(refused(rest)),
     }
 }
 
 /// The condition of a `for`; an absent one is the literal 1.
 #[tactic(auto, unfolding(crate::specs::StmtReaders::test_at))]
-pub fn test_at(alloc: Global, room: u32, rest: &mut Lexemes<'_>) -> Result<ExprTree, SyntaxFault>
+pub fn test_at(
+    alloc: Global,
+    room: u32,
+    rest: &mut Lexemes<'_>,
+) -> Result<Boxed<ExprTree>, SyntaxFault>
     ensures { Agrees (λ x. (x, rest.new)) result (test_at most_brackets room rest.old) }
 {
     if begins_with(Mark::Semicolon, rest) {
-        always(room, rest)
+        always(alloc, room, rest)
     } else {
         expr_at(alloc, room, rest)
     }

@@ -14,15 +14,15 @@ use crate::lookahead::{begins_call, ended_by, is_else};
 use crate::simple::{part_at, simple_at, test_at};
 use sc_ast::{ExprTree, SimpleKind, SimpleTree, StmtKind, StmtTree, Stmts};
 use sc_parse_expr::{Keyword, Lexemes, Mark, SyntaxFault, begins_with, refused, take};
-use sqlite_items::Items;
+use sqlite_items::{Boxed, Items};
 use std::alloc::Global;
 
 /// What stands between `for` and its body.
 #[derive(Drop)]
 struct ForHead {
-    first: Option<SimpleTree>,
-    cond: ExprTree,
-    next: Option<SimpleTree>,
+    first: Option<Boxed<SimpleTree>>,
+    cond: Boxed<ExprTree>,
+    next: Option<Boxed<SimpleTree>>,
 }
 
 fn kind_of(kind: SimpleKind) -> StmtKind
@@ -112,7 +112,7 @@ fn first_part(
     alloc: Global,
     room: u32,
     rest: &mut Lexemes<'_>,
-) -> Result<Option<SimpleTree>, SyntaxFault>
+) -> Result<Option<Boxed<SimpleTree>>, SyntaxFault>
     ensures { Agrees (λ x. (x, rest.new)) result (first_part most_brackets room rest.old) }
 {
     take(Mark::OpenParen, rest)?;
@@ -121,7 +121,11 @@ fn first_part(
 }
 
 #[tactic(auto, unfolding(crate::specs::StmtReaders::middle_part))]
-fn middle_part(alloc: Global, room: u32, rest: &mut Lexemes<'_>) -> Result<ExprTree, SyntaxFault>
+fn middle_part(
+    alloc: Global,
+    room: u32,
+    rest: &mut Lexemes<'_>,
+) -> Result<Boxed<ExprTree>, SyntaxFault>
     ensures { Agrees (λ x. (x, rest.new)) result (middle_part most_brackets room rest.old) }
 {
     let cond = test_at(alloc, room, rest)?;
@@ -133,7 +137,7 @@ fn last_part(
     alloc: Global,
     room: u32,
     rest: &mut Lexemes<'_>,
-) -> Result<Option<SimpleTree>, SyntaxFault>
+) -> Result<Option<Boxed<SimpleTree>>, SyntaxFault>
     ensures { Agrees (λ x. (x, rest.new)) result (last_part most_brackets room rest.old) }
 {
     let part = part_at(alloc, room, Mark::CloseParen, rest)?;

@@ -123,13 +123,13 @@ fn lead_of(symbol: &Symbol) -> Option<Lead>
     }
 }
 
-fn leaf_of(symbol: &Symbol) -> Option<ExprTree>
-    ensures { result ≡ leaf_of symbol.now }
+fn leaf_of(alloc: Global, symbol: &Symbol) -> Result<Option<ExprTree>, AllocError>
+    ensures { IfOk result (λ leaf. leaf ≡ leaf_of symbol.now) }
 {
     match symbol {
-        Symbol::Integer(literal) => Some(ExprTree::Literal(*literal)),
-        Symbol::Ident(name) => Some(ExprTree::Variable(*name)),
-        _ => None,
+        Symbol::Integer(literal) => Ok(Some(ExprTree::Literal(*literal))),
+        Symbol::Ident(name) => Ok(Some(ExprTree::Variable(Boxed::new(alloc, *name)?))),
+        _ => Ok(None),
     }
 }
 
@@ -156,7 +156,7 @@ fn take_extension(level: u8, rest: &mut Lexemes<'_>) -> Option<Extension>
     }
 }
 
-fn accessed(access: Access, base: Boxed<ExprTree>, name: Ident) -> ExprTree
+fn accessed(access: Access, base: Boxed<ExprTree>, name: Boxed<Ident>) -> ExprTree
     ensures { result ≡ accessed access base name }
 {
     match access {
@@ -178,7 +178,7 @@ fn parse_leaf(alloc: Global, symbol: &Symbol, rest: &mut Lexemes<'_>) -> Answer
     ensures read { Agrees (λ x. found x.tree x.height rest.new) result (leaf_at rest.old) }
     ensures low { IfOk result (λ x. x.height ≡ 1) }
 {
-    let Some(leaf) = leaf_of(symbol) else {
+    let Some(leaf) = leaf_of(alloc, symbol)? else {
         return Err(refused(rest));
     };
     rest.advance();
@@ -192,7 +192,7 @@ fn parse_size(alloc: Global, free: u32, rest: &mut Lexemes<'_>) -> Answer
 {
     if free > 0 {
         let of = type_in_parens(rest)?;
-        Ok(build(alloc, ExprTree::SizeOf(of), 1)?)
+        Ok(build(alloc, ExprTree::SizeOf(Boxed::new(alloc, of)?), 1)?)
     } else {
         Err(refused(rest))
     }
@@ -367,5 +367,6 @@ fn parse_named(alloc: Global, access: Access, left: Built, rest: &mut Lexemes<'_
 {
     let name = name_at(rest)?;
     let height = left.height + 1;
+    let name = Boxed::new(alloc, name)?;
     Ok(build(alloc, accessed(access, left.tree, name), height)?)
 }

@@ -7,6 +7,7 @@ use sc_ast::{
     BaseTree, CallTree, ExprTree, Exprs, PlaceTree, SimpleKind, SimpleTree, StmtKind, StmtTree,
     Stmts, TypeName,
 };
+use sqlite_items::Boxed;
 
 /// What the base of a type keeps holds of all of them, since a name was made by a test.
 pub fn keeps_base(base: &BaseTree)
@@ -26,7 +27,7 @@ pub fn keeps_leaves(expr: &ExprTree)
             let _value = literal.value();
         }
         ExprTree::Variable(name) => {
-            let _name = name.as_bytes();
+            let _name = name.get().as_bytes();
         }
         ExprTree::Unary { of, .. } => keeps_leaves(of.get()),
         ExprTree::Binary { left, right, .. } => {
@@ -38,16 +39,16 @@ pub fn keeps_leaves(expr: &ExprTree)
             keeps_leaves(index.get());
         }
         ExprTree::Member { base, name } => {
-            let _name = name.as_bytes();
+            let _name = name.get().as_bytes();
             keeps_leaves(base.get());
         }
         ExprTree::Arrow { base, name } => {
-            let _name = name.as_bytes();
+            let _name = name.get().as_bytes();
             keeps_leaves(base.get());
         }
         ExprTree::Deref(of) => keeps_leaves(of.get()),
         ExprTree::Address(of) => keeps_leaves(of.get()),
-        ExprTree::SizeOf(of) => keeps_base(&of.base),
+        ExprTree::SizeOf(of) => keeps_base(&of.get().base),
     }
 }
 
@@ -81,11 +82,13 @@ fn keeps_call(call: &CallTree)
     keeps_args(&call.args);
 }
 
-fn keeps_malloc(place: &PlaceTree, count: &Option<ExprTree>, of: &TypeName)
+fn keeps_malloc(place: &PlaceTree, count: &Option<Boxed<ExprTree>>, of: &TypeName)
     ensures { IsTrue (kept_malloc place.now count.now of.now) }
 {
     keeps_place(place);
-    keeps_value(count);
+    if let Some(count) = count {
+        keeps_leaves(count.get());
+    }
     keeps_base(&of.base);
 }
 
@@ -95,23 +98,23 @@ fn keeps_simple(kind: &SimpleKind)
     match kind {
         SimpleKind::Assign { place, value } => {
             keeps_place(place);
-            keeps_leaves(value);
+            keeps_leaves(value.get());
         }
         SimpleKind::AssignCall { place, call } => {
             keeps_place(place);
-            keeps_call(call);
+            keeps_call(call.get());
         }
-        SimpleKind::Call(call) => keeps_call(call),
-        SimpleKind::Malloc { place, count, of } => keeps_malloc(place, count, of),
-        SimpleKind::Free(pointer) => keeps_leaves(pointer),
+        SimpleKind::Call(call) => keeps_call(call.get()),
+        SimpleKind::Malloc { place, count, of } => keeps_malloc(place, count, of.get()),
+        SimpleKind::Free(pointer) => keeps_leaves(pointer.get()),
     }
 }
 
-fn keeps_option(simple: &Option<SimpleTree>)
+fn keeps_option(simple: &Option<Boxed<SimpleTree>>)
     ensures { IsTrue (kept_option simple.now) }
 {
     if let Some(simple) = simple {
-        keeps_simple(simple.kind.get());
+        keeps_simple(&simple.get().kind);
     }
 }
 
@@ -139,26 +142,26 @@ fn keeps_kind(kind: &StmtKind)
     match kind {
         StmtKind::Assign { place, value } => {
             keeps_place(place);
-            keeps_leaves(value);
+            keeps_leaves(value.get());
         }
         StmtKind::AssignCall { place, call } => {
             keeps_place(place);
-            keeps_call(call);
+            keeps_call(call.get());
         }
-        StmtKind::Call(call) => keeps_call(call),
-        StmtKind::Malloc { place, count, of } => keeps_malloc(place, count, of),
-        StmtKind::Free(pointer) => keeps_leaves(pointer),
+        StmtKind::Call(call) => keeps_call(call.get()),
+        StmtKind::Malloc { place, count, of } => keeps_malloc(place, count, of.get()),
+        StmtKind::Free(pointer) => keeps_leaves(pointer.get()),
         StmtKind::If {
             cond,
             then_part,
             else_part,
         } => {
-            keeps_leaves(cond);
+            keeps_leaves(cond.get());
             keep_leaves(then_part);
             keep_leaves(else_part);
         }
         StmtKind::While { cond, body } => {
-            keeps_leaves(cond);
+            keeps_leaves(cond.get());
             keep_leaves(body);
         }
         StmtKind::For {
@@ -168,12 +171,12 @@ fn keeps_kind(kind: &StmtKind)
             body,
         } => {
             keeps_option(first);
-            keeps_leaves(cond);
+            keeps_leaves(cond.get());
             keeps_option(next);
             keep_leaves(body);
         }
-        StmtKind::ReturnValue(value) => keeps_leaves(value),
-        StmtKind::ReturnCall(call) => keeps_call(call),
+        StmtKind::ReturnValue(value) => keeps_leaves(value.get()),
+        StmtKind::ReturnCall(call) => keeps_call(call.get()),
         _ => (),
     }
 }

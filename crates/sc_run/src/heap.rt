@@ -11,12 +11,13 @@ use crate::state::Machine;
 use crate::work::{Frame, Leaving, Now, Run, Step};
 use sc_base::OutOfMemory;
 use sc_core::{Cause, Pointer, Program, RunEnd, TypedExpr, Value, Want};
+use sqlite_items::Boxed;
 
 // How many elements are allocated: one where no count stands.
 fn count_of(
     machine: &Machine,
     frame: &Frame,
-    count: &Option<TypedExpr>,
+    count: &Option<Boxed<TypedExpr>>,
     line: u32,
 ) -> Result<Value, RunEnd>
     ensures { Comes (kept_by machine.now) (kept_by machine.now) result
@@ -24,7 +25,7 @@ fn count_of(
 {
     match count {
         None => Ok(Value::Word(1)),
-        Some(count) => evaluated(machine, frame, Want::Value, count, line),
+        Some(count) => evaluated(machine, frame, Want::Value, count.get(), line),
     }
 }
 
@@ -67,7 +68,7 @@ fn allocate_at(
     machine: &mut Machine,
     frame: &Frame,
     place: &TypedExpr,
-    count: &Option<TypedExpr>,
+    count: &Option<Boxed<TypedExpr>>,
     cells: u32,
     line: u32,
 ) -> Result<Result<(), RunEnd>, OutOfMemory>
@@ -117,7 +118,7 @@ pub fn malloc<'a>(
     program: &'a Program,
     run: &mut Run<'a, '_>,
     place: &TypedExpr,
-    count: &Option<TypedExpr>,
+    count: &Option<Boxed<TypedExpr>>,
     cells: u32,
     line: u32,
 ) -> Result<Step<'a>, OutOfMemory>

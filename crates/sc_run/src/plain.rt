@@ -37,7 +37,7 @@ pub fn is_done(program: &Program, machine: &mut Machine, frame: &Frame, stmt: &T
     match &stmt.kind {
         TypedStmtKind::Empty => true,
         TypedStmtKind::Assign { place, value } => {
-            is_assigned(machine, frame, place.get(), value, stmt.line)
+            is_assigned(machine, frame, place.get(), value.get(), stmt.line)
         }
         _ => false,
     }
@@ -79,7 +79,7 @@ fn chosen<'a>(
             cond,
             then_part,
             else_part,
-        } => match sc_run_value::evaluate(&machine.blocks, &frame.scope, Want::Value, cond) {
+        } => match sc_run_value::evaluate(&machine.blocks, &frame.scope, Want::Value, cond.get()) {
             Ok(value) => {
                 if is_true(value) {
                     return Some(then_part.as_slice());
@@ -155,7 +155,7 @@ fn exit_by(program: &Program, machine: &Machine, frame: &Frame, stmt: &TypedStmt
     match &stmt.kind {
         TypedStmtKind::Return => Some(Leaving::Return(None)),
         TypedStmtKind::ReturnValue(value) => {
-            match sc_run_value::evaluate(&machine.blocks, &frame.scope, Want::Value, value) {
+            match sc_run_value::evaluate(&machine.blocks, &frame.scope, Want::Value, value.get()) {
                 Ok(value) => Some(Leaving::Return(Some(value))),
                 Err(_) => None,
             }
@@ -194,7 +194,7 @@ pub fn is_part_done(
 {
     match &part.kind {
         TypedSimpleKind::Assign { place, value } => {
-            is_assigned(machine, frame, place.get(), value, part.line)
+            is_assigned(machine, frame, place.get(), value.get(), part.line)
         }
         _ => false,
     }

@@ -56,7 +56,7 @@ fn stmt_plan<'a>(frame: &Frame, stmts: &'a [TypedStmt], at: usize) -> Option<Ass
     }
     match &stmts[at].kind {
         TypedStmtKind::Assign { place, value } => {
-            Some(assignment_of(&frame.scope, place.get(), value))
+            Some(assignment_of(&frame.scope, place.get(), value.get()))
         }
         _ => None,
     }
@@ -83,7 +83,7 @@ fn next_plan<'a>(frame: &Frame, whole: &Loop<'a>) -> Option<Assignment<'a>>
         None => None,
         Some(next) => match &next.kind {
             TypedSimpleKind::Assign { place, value } => {
-                Some(assignment_of(&frame.scope, place.get(), value))
+                Some(assignment_of(&frame.scope, place.get(), value.get()))
             }
             _ => None,
         },

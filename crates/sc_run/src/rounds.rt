@@ -19,12 +19,12 @@ fn call_in<'a>(program: &'a Program, stmt: &'a TypedStmt) -> Option<Made<'a>>
 {
     match &stmt.kind {
         TypedStmtKind::AssignCall { place, call } => Some(Made {
-            call,
+            call: call.get(),
             to: To::Place(place.get(), stmt.line),
             line: stmt.line,
         }),
         TypedStmtKind::Call(call) => Some(Made {
-            call,
+            call: call.get(),
             to: To::Nowhere,
             line: stmt.line,
         }),

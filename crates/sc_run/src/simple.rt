@@ -251,19 +251,21 @@ pub fn simple<'a>(
             program,
             run,
             place.get(),
-            value,
+            value.get(),
             part.line,
         )),
         TypedSimpleKind::AssignCall { place, call: made } => {
             let to = To::Place(place.get(), part.line);
-            call(program, run, made, to, part.line)
+            call(program, run, made.get(), to, part.line)
         }
-        TypedSimpleKind::Call(made) => call(program, run, made, To::Nowhere, part.line),
+        TypedSimpleKind::Call(made) => {
+            call(program, run, made.get(), To::Nowhere, part.line)
+        }
         TypedSimpleKind::Malloc {
             place,
             count,
             cells,
         } => malloc(program, run, place.get(), count, *cells, part.line),
-        TypedSimpleKind::Free(pointer) => Ok(free(program, run, pointer, part.line)),
+        TypedSimpleKind::Free(pointer) => Ok(free(program, run, pointer.get(), part.line)),
     }
 }

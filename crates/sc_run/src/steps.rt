@@ -4,7 +4,8 @@ ghost use Rattle.sc_run.specs.Prelude.{Advances, Next, Return, and_then, block_a
 ghost use Rattle.sc_run.specs.Prelude.{here_of, in_order, leave, left_at, loop, loop_acts, part_acts, stmt_acts, test};
 ghost use Rattle.sc_run.specs.Prelude.{AnotherSuffices, block_nodes, block_weight, kept_by, leaf_weight, loop_weight};
 ghost use Rattle.sc_run.specs.Prelude.{place_weight, stmt_weight, way_in};
-ghost use Rattle.std.specs.Prelude.{◌≤◌, ◌+◌, ◌*◌, IfOk, Some, length};
+ghost use Rattle.std.specs.Prelude.{◌≡◌, ◌≤◌, ◌+◌, ◌*◌, IfOk, Some, length};
+ghost use Rattle.std.specs.Option.{option_map};
 ghost use Rattle.sc_core.specs.declared.value.Want.TheVariants as want;
 
 use crate::heap::{free, malloc};
@@ -17,6 +18,17 @@ use crate::work::{Leaving, Loop, Made, Now, Position, Run, Step, To, Work};
 use sc_base::OutOfMemory;
 use sc_core::{Program, TypedExpr, TypedSimple, TypedStmt, TypedStmtKind, Want};
 use sc_run_value::is_true;
+use sqlite_items::Boxed;
+
+// The statement in the head of a `for`, if it is there.
+fn part_of(part: &Option<Boxed<TypedSimple>>) -> Option<&TypedSimple>
+    ensures { option_map (λ found. found.now) result ≡ part.now }
+{
+    match part {
+        None => None,
+        Some(part) => Some(part.get()),
+    }
+}
 
 // The first statements where the condition holds, else the second.
 fn branch<'a>(
@@ -141,7 +153,7 @@ fn while_loop<'a>(
 fn first_part<'a>(
     program: &'a Program,
     run: &mut Run<'a, '_>,
-    first: &'a Option<TypedSimple>,
+    first: &'a Option<Boxed<TypedSimple>>,
     whole: &Loop<'a>,
 ) -> Result<Step<'a>, OutOfMemory>
     requires { AnotherSuffices (kept_by run.old.machine) }
@@ -153,7 +165,7 @@ fn first_part<'a>(
         None => round(program, run, whole),
         Some(first) => {
             run.work.push(Work::First(*whole))?;
-            simple(program, run, first)
+            simple(program, run, first.get())
         }
     }
 }
@@ -195,15 +207,17 @@ fn statement<'a>(
             program,
             run,
             place.get(),
-            value,
+            value.get(),
             line,
         )),
         TypedStmtKind::AssignCall { place, call } => {
             let to = To::Place(place.get(), line);
+            let call = call.get();
             call_made(program, run, &Made { call, to, line })
         }
         TypedStmtKind::Call(call) => {
             let to = To::Nowhere;
+            let call = call.get();
             call_made(program, run, &Made { call, to, line })
         }
         TypedStmtKind::Malloc {
@@ -211,9 +225,9 @@ fn statement<'a>(
             count,
             cells,
         } => malloc(program, run, place.get(), count, *cells, line),
-        TypedStmtKind::Free(pointer) => Ok(free(program, run, pointer, line)),
-        TypedStmtKind::ReturnCall(made) => { call(program, run, made, To::Back, line) }
-        TypedStmtKind::ReturnValue(value) => { Ok(returned_value(program, run, value, line)) }
+        TypedStmtKind::Free(pointer) => Ok(free(program, run, pointer.get(), line)),
+        TypedStmtKind::ReturnCall(made) => { call(program, run, made.get(), To::Back, line) }
+        TypedStmtKind::ReturnValue(value) => { Ok(returned_value(program, run, value.get(), line)) }
         TypedStmtKind::If {
             cond,
             then_part,
@@ -221,14 +235,14 @@ fn statement<'a>(
         } => Ok(branch(
             program,
             run,
-            cond,
+            cond.get(),
             line,
             then_part.as_slice(),
             else_part.as_slice(),
         )),
         TypedStmtKind::While { cond, body } => {
             let body = body.as_slice();
-            while_loop(program, run, cond, body, line)
+            while_loop(program, run, cond.get(), body, line)
         }
         TypedStmtKind::For {
             first,
@@ -237,9 +251,9 @@ fn statement<'a>(
             body,
         } => {
             let whole = Loop {
-                cond,
+                cond: cond.get(),
                 body: body.as_slice(),
-                next: next.as_ref(),
+                next: part_of(next),
                 line,
             };
             first_part(program, run, first, &whole)

@@ -9,6 +9,7 @@ use sc_ast::{
     CallTree, Decl, Decls, ExprTree, FunctionTree, LocalTree, LocalTrees, SimpleKind, SimpleTree,
     StmtKind, StmtTree, Stmts,
 };
+use sqlite_items::Boxed;
 
 // One node and those of its parts.
 fn over(parts: u32) -> u32
@@ -53,6 +54,15 @@ fn option_nodes(expr: &Option<ExprTree>) -> u32
     }
 }
 
+fn count_nodes(count: &Option<Boxed<ExprTree>>) -> u32
+    ensures { result ≡ limited (option_nodes count.now) }
+{
+    match count {
+        None => 0,
+        Some(count) => expr_nodes(count.get()),
+    }
+}
+
 fn call_nodes(call: &CallTree) -> u32
     ensures { result ≡ limited (call_nodes call.now) }
 {
@@ -68,25 +78,25 @@ fn simple_nodes(kind: &SimpleKind) -> u32
 {
     match kind {
         SimpleKind::Assign { place, value } => {
-            over(both(expr_nodes(place.get()), expr_nodes(value)))
+            over(both(expr_nodes(place.get()), expr_nodes(value.get())))
         }
         SimpleKind::AssignCall { place, call } => {
-            over(both(expr_nodes(place.get()), call_nodes(call)))
+            over(both(expr_nodes(place.get()), call_nodes(call.get())))
         }
-        SimpleKind::Call(call) => over(call_nodes(call)),
+        SimpleKind::Call(call) => over(call_nodes(call.get())),
         SimpleKind::Malloc { place, count, .. } => {
-            over(both(expr_nodes(place.get()), option_nodes(count)))
+            over(both(expr_nodes(place.get()), count_nodes(count)))
         }
-        SimpleKind::Free(pointer) => over(expr_nodes(pointer)),
+        SimpleKind::Free(pointer) => over(expr_nodes(pointer.get())),
     }
 }
 
-fn part_nodes(part: &Option<SimpleTree>) -> u32
+fn part_nodes(part: &Option<Boxed<SimpleTree>>) -> u32
     ensures { result ≡ limited (part_nodes part.now) }
 {
     match part {
         None => 0,
-        Some(simple) => simple_nodes(simple.kind.get()),
+        Some(simple) => simple_nodes(&simple.get().kind),
     }
 }
 
@@ -113,38 +123,38 @@ fn kind_nodes(kind: &StmtKind) -> u32
     ensures { result ≡ limited (kind_nodes kind.now) }
 {
     match kind {
-        StmtKind::Assign { place, value } => over(both(expr_nodes(place.get()), expr_nodes(value))),
+        StmtKind::Assign { place, value } => over(both(expr_nodes(place.get()), expr_nodes(value.get()))),
         StmtKind::AssignCall { place, call } => {
-            over(both(expr_nodes(place.get()), call_nodes(call)))
+            over(both(expr_nodes(place.get()), call_nodes(call.get())))
         }
-        StmtKind::Call(call) => over(call_nodes(call)),
+        StmtKind::Call(call) => over(call_nodes(call.get())),
         StmtKind::Malloc { place, count, .. } => {
-            over(both(expr_nodes(place.get()), option_nodes(count)))
+            over(both(expr_nodes(place.get()), count_nodes(count)))
         }
-        StmtKind::Free(pointer) => over(expr_nodes(pointer)),
+        StmtKind::Free(pointer) => over(expr_nodes(pointer.get())),
         StmtKind::If {
             cond,
             then_part,
             else_part,
         } => {
-            let condition = expr_nodes(cond);
+            let condition = expr_nodes(cond.get());
             over(both(
                 both(condition, stmts_nodes(then_part)),
                 stmts_nodes(else_part),
             ))
         }
-        StmtKind::While { cond, body } => over(both(expr_nodes(cond), stmts_nodes(body))),
+        StmtKind::While { cond, body } => over(both(expr_nodes(cond.get()), stmts_nodes(body))),
         StmtKind::For {
             first,
             cond,
             next,
             body,
         } => {
-            let head = both(both(part_nodes(first), expr_nodes(cond)), part_nodes(next));
+            let head = both(both(part_nodes(first), expr_nodes(cond.get())), part_nodes(next));
             over(both(head, stmts_nodes(body)))
         }
-        StmtKind::ReturnValue(value) => over(expr_nodes(value)),
-        StmtKind::ReturnCall(call) => over(call_nodes(call)),
+        StmtKind::ReturnValue(value) => over(expr_nodes(value.get())),
+        StmtKind::ReturnCall(call) => over(call_nodes(call.get())),
         _ => 1,
     }
 }

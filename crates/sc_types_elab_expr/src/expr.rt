@@ -37,7 +37,11 @@ pub fn build_expr(
 {
     match expr {
         ExprTree::Literal(literal) => Ok(literal_built(*literal)),
-        ExprTree::Variable(name) => Ok(variable_built(found(section, function, &name.name()))),
+        ExprTree::Variable(name) => Ok(variable_built(found(
+            section,
+            function,
+            &name.get().name(),
+        ))),
         ExprTree::Unary { op, of } => {
             let of = build_expr(alloc, section, function, of.get())?;
             unary_built(alloc, *op, of)
@@ -54,12 +58,12 @@ pub fn build_expr(
         }
         ExprTree::Member { base, name } => {
             let base = build_expr(alloc, section, function, base.get())?;
-            let member = section.structs.member(Some(base.expr.ty), &name.name());
+            let member = section.structs.member(Some(base.expr.ty), &name.get().name());
             member_built(alloc, base, member)
         }
         ExprTree::Arrow { base, name } => {
             let base = build_expr(alloc, section, function, base.get())?;
-            let member = section.structs.member(base.expr.ty.pointed(), &name.name());
+            let member = section.structs.member(base.expr.ty.pointed(), &name.get().name());
             arrow_built(alloc, base, member)
         }
         ExprTree::Deref(of) => {
@@ -70,7 +74,11 @@ pub fn build_expr(
             let of = build_expr(alloc, section, function, of.get())?;
             address_built(alloc, of)
         }
-        ExprTree::SizeOf(of) => Ok(sizeof_built(cells_under(&section.tags, &section.structs, of))),
+        ExprTree::SizeOf(of) => Ok(sizeof_built(cells_under(
+            &section.tags,
+            &section.structs,
+            of.get(),
+        ))),
     }
 }
 

@@ -10,6 +10,7 @@ use crate::rules::Place;
 use sc_ast::{SimpleTree, StmtKind, StmtTree, Stmts};
 use sc_base::OutOfMemory;
 use sc_types_scope::BrokenLines;
+use sqlite_items::Boxed;
 use std::alloc::Global;
 
 impl Place<'_> {
@@ -19,7 +20,7 @@ impl Place<'_> {
         &self,
         alloc: Global,
         lines: &mut BrokenLines,
-        part: &Option<SimpleTree>,
+        part: &Option<Boxed<SimpleTree>>,
     ) -> Result<(), OutOfMemory>
         ensures { (scope : Scope) → Suits (visible self.now.section.now self.now.function.now) scope →
             OnOk result (lines.new ≡ with_lines lines.old
@@ -29,7 +30,8 @@ impl Place<'_> {
         match part {
             None => Ok(()),
             Some(simple) => {
-                let holds = self.simple_holds(alloc, simple.kind.get())?;
+                let simple = simple.get();
+                let holds = self.simple_holds(alloc, &simple.kind)?;
                 lines.unless(holds, simple.line);
                 Ok(())
             }
@@ -91,12 +93,12 @@ impl Place<'_> {
                 then_part,
                 else_part,
             } => {
-                lines.unless(self.cond_holds(alloc, cond)?, line);
+                lines.unless(self.cond_holds(alloc, cond.get())?, line);
                 self.note_stmts(alloc, lines, then_part)?;
                 self.note_stmts(alloc, lines, else_part)
             }
             StmtKind::While { cond, body } => {
-                lines.unless(self.cond_holds(alloc, cond)?, line);
+                lines.unless(self.cond_holds(alloc, cond.get())?, line);
                 self.note_stmts(alloc, lines, body)
             }
             StmtKind::For {
@@ -106,28 +108,28 @@ impl Place<'_> {
                 body,
             } => {
                 self.note_part(alloc, lines, first)?;
-                lines.unless(self.cond_holds(alloc, cond)?, line);
+                lines.unless(self.cond_holds(alloc, cond.get())?, line);
                 self.note_part(alloc, lines, next)?;
                 self.note_stmts(alloc, lines, body)
             }
             StmtKind::Assign { place, value } => {
-                lines.unless(self.assign_holds(alloc, place.get(), value)?, line);
+                lines.unless(self.assign_holds(alloc, place.get(), value.get())?, line);
                 Ok(())
             }
             StmtKind::AssignCall { place, call } => {
-                lines.unless(self.assign_call_holds(alloc, place.get(), call)?, line);
+                lines.unless(self.assign_call_holds(alloc, place.get(), call.get())?, line);
                 Ok(())
             }
             StmtKind::Call(call) => {
-                lines.unless(self.call_holds(alloc, call)?, line);
+                lines.unless(self.call_holds(alloc, call.get())?, line);
                 Ok(())
             }
             StmtKind::Malloc { place, count, of } => {
-                lines.unless(self.malloc_holds(alloc, place.get(), count, of)?, line);
+                lines.unless(self.malloc_holds(alloc, place.get(), count, of.get())?, line);
                 Ok(())
             }
             StmtKind::Free(pointer) => {
-                lines.unless(self.free_holds(alloc, pointer)?, line);
+                lines.unless(self.free_holds(alloc, pointer.get())?, line);
                 Ok(())
             }
             StmtKind::Return => {
@@ -135,11 +137,11 @@ impl Place<'_> {
                 Ok(())
             }
             StmtKind::ReturnValue(value) => {
-                lines.unless(self.return_value_holds(alloc, value)?, line);
+                lines.unless(self.return_value_holds(alloc, value.get())?, line);
                 Ok(())
             }
             StmtKind::ReturnCall(call) => {
-                lines.unless(self.return_call_holds(alloc, call)?, line);
+                lines.unless(self.return_call_holds(alloc, call.get())?, line);
                 Ok(())
             }
             StmtKind::Empty => Ok(()),

@@ -13,6 +13,7 @@ use sc_ast::{CallTree, ExprTree, SimpleKind, TypeName};
 use sc_base::{Name, OutOfMemory};
 use sc_core::Ty;
 use sc_types_elab_expr::{FunctionScope, Judged, SectionScope, build_expr, is_type, type_of_name};
+use sqlite_items::Boxed;
 use std::alloc::Global;
 
 /// What is seen at a place of a function.
@@ -141,14 +142,14 @@ impl Place<'_> {
     }
 
     // Whether that number of elements may be allocated.
-    fn counts(&self, alloc: Global, count: &Option<ExprTree>) -> Result<bool, OutOfMemory>
+    fn counts(&self, alloc: Global, count: &Option<Boxed<ExprTree>>) -> Result<bool, OutOfMemory>
         ensures { (scope : Scope) → Suits (visible self.now.section.now self.now.function.now) scope →
             IfOk result (λ holds. holds ≡ count_fits (option_map (judged scope) (option_map
             (typed (visible self.now.section.now self.now.function.now)) count.now))) }
     {
         match count {
             None => Ok(true),
-            Some(count) => self.is_int(alloc, count),
+            Some(count) => self.is_int(alloc, count.get()),
         }
     }
 
@@ -157,7 +158,7 @@ impl Place<'_> {
         &self,
         alloc: Global,
         ty: Ty,
-        count: &Option<ExprTree>,
+        count: &Option<Boxed<ExprTree>>,
         of: &TypeName,
     ) -> Result<bool, OutOfMemory>
         ensures { (scope : Scope) → Suits (visible self.now.section.now self.now.function.now) scope →
@@ -175,7 +176,7 @@ impl Place<'_> {
         &self,
         alloc: Global,
         place: &ExprTree,
-        count: &Option<ExprTree>,
+        count: &Option<Boxed<ExprTree>>,
         of: &TypeName,
     ) -> Result<bool, OutOfMemory>
         ensures { (scope : Scope) → Suits (visible self.now.section.now self.now.function.now) scope →
@@ -251,15 +252,15 @@ impl Place<'_> {
             (called self.now.section.now.callees) scope self.now.function.now.result simple.now) }
     {
         match simple {
-            SimpleKind::Assign { place, value } => self.assign_holds(alloc, place.get(), value),
+            SimpleKind::Assign { place, value } => self.assign_holds(alloc, place.get(), value.get()),
             SimpleKind::AssignCall { place, call } => {
-                self.assign_call_holds(alloc, place.get(), call)
+                self.assign_call_holds(alloc, place.get(), call.get())
             }
-            SimpleKind::Call(call) => self.call_holds(alloc, call),
+            SimpleKind::Call(call) => self.call_holds(alloc, call.get()),
             SimpleKind::Malloc { place, count, of } => {
-                self.malloc_holds(alloc, place.get(), count, of)
+                self.malloc_holds(alloc, place.get(), count, of.get())
             }
-            SimpleKind::Free(pointer) => self.free_holds(alloc, pointer),
+            SimpleKind::Free(pointer) => self.free_holds(alloc, pointer.get()),
         }
     }
 }

@@ -17,7 +17,7 @@ use sc_core::{
 use sc_types_elab_expr::{
     Built, Callees, FunctionScope, SectionScope, Signature, build_expr, cells_under, going_to,
 };
-use sqlite_items::Items;
+use sqlite_items::{Boxed, Items};
 use std::alloc::Global;
 
 // A place with its types.
@@ -31,7 +31,7 @@ fn build_place(
     ensures { IfOk result (λ built. built ≡ expr_in section.now function.now place.now) }
 {
     let built = build_expr(alloc, section, function, place.get())?;
-    match TypedPlace::new(built.expr) {
+    match TypedPlace::new(Boxed::new(alloc, built.expr)?) {
         Ok(place) => Ok(place),
         Err(built) => {
             drop(built);
@@ -117,14 +117,14 @@ fn build_call(
     section: &SectionScope,
     function: &FunctionScope,
     call: &CallTree,
-) -> Result<TypedCall, OutOfMemory>
+) -> Result<Boxed<TypedCall>, OutOfMemory>
     ensures { IfOk result (λ built. built ≡ call_in section.now function.now call.now) }
 {
     let name = call.name.name();
     let params = params_of(&section.callees, &name);
     let args = build_args(alloc, section, function, params, call.args.as_slice())?;
     let target = section.callees.target(&name);
-    Ok(TypedCall { target, args })
+    Ok(Boxed::new(alloc, TypedCall { target, args })?)
 }
 
 // The parts of an assignment.
@@ -134,14 +134,14 @@ fn build_assign(
     function: &FunctionScope,
     place: &PlaceTree,
     value: &ExprTree,
-) -> Result<(TypedPlace, TypedExpr), OutOfMemory>
+) -> Result<(TypedPlace, Boxed<TypedExpr>), OutOfMemory>
     ensures place { IfOk result (λ built. built.0 ≡ expr_in section.now function.now place.now) }
     ensures value { IfOk result (λ built. built.1 ≡ value_in section.now function.now
         (expr_in section.now function.now place.now).ty value.now) }
 {
     let place = build_place(alloc, section, function, place)?;
     let value = build_value(alloc, section, function, place.get().ty, value)?;
-    Ok((place, value.expr))
+    Ok((place, Boxed::new(alloc, value.expr)?))
 }
 
 // The parts of an assignment of a call.
@@ -151,7 +151,7 @@ fn build_assign_call(
     function: &FunctionScope,
     place: &PlaceTree,
     call: &CallTree,
-) -> Result<(TypedPlace, TypedCall), OutOfMemory>
+) -> Result<(TypedPlace, Boxed<TypedCall>), OutOfMemory>
     ensures place { IfOk result (λ built. built.0 ≡ expr_in section.now function.now place.now) }
     ensures call { IfOk result (λ built. built.1 ≡ call_in section.now function.now call.now) }
 {
@@ -166,15 +166,15 @@ fn build_count(
     alloc: Global,
     section: &SectionScope,
     function: &FunctionScope,
-    count: &Option<ExprTree>,
-) -> Result<Option<TypedExpr>, OutOfMemory>
+    count: &Option<Boxed<ExprTree>>,
+) -> Result<Option<Boxed<TypedExpr>>, OutOfMemory>
     ensures { IfOk result (λ built. built ≡ count_in section.now function.now count.now) }
 {
     match count {
         None => Ok(None),
         Some(count) => {
-            let count = build_expr(alloc, section, function, count)?;
-            Ok(Some(count.expr))
+            let count = build_expr(alloc, section, function, count.get())?;
+            Ok(Some(Boxed::new(alloc, count.expr)?))
         }
     }
 }
@@ -185,8 +185,8 @@ fn build_malloc(
     section: &SectionScope,
     function: &FunctionScope,
     place: &PlaceTree,
-    count: &Option<ExprTree>,
-) -> Result<(TypedPlace, Option<TypedExpr>), OutOfMemory>
+    count: &Option<Boxed<ExprTree>>,
+) -> Result<(TypedPlace, Option<Boxed<TypedExpr>>), OutOfMemory>
     ensures place { IfOk result (λ built. built.0 ≡ expr_in section.now function.now place.now) }
     ensures count { IfOk result (λ built. built.1 ≡ count_in section.now function.now count.now) }
 {
@@ -216,20 +216,20 @@ fn build_simple_kind(
 {
     match kind {
         SimpleKind::Assign { place, value } => {
-            let (place, value) = build_assign(alloc, section, function, place, value)?;
+            let (place, value) = build_assign(alloc, section, function, place, value.get())?;
             Ok(TypedSimpleKind::Assign { place, value })
         }
         SimpleKind::AssignCall { place, call } => {
-            let (place, call) = build_assign_call(alloc, section, function, place, call)?;
+            let (place, call) = build_assign_call(alloc, section, function, place, call.get())?;
             Ok(TypedSimpleKind::AssignCall { place, call })
         }
         SimpleKind::Call(call) => {
-            let call = build_call(alloc, section, function, call)?;
+            let call = build_call(alloc, section, function, call.get())?;
             Ok(TypedSimpleKind::Call(call))
         }
         SimpleKind::Malloc { place, count, of } => {
             let (place, count) = build_malloc(alloc, section, function, place, count)?;
-            let cells = cells_under(&section.tags, &section.structs, of);
+            let cells = cells_under(&section.tags, &section.structs, of.get());
             Ok(TypedSimpleKind::Malloc {
                 place,
                 count,
@@ -237,8 +237,8 @@ fn build_simple_kind(
             })
         }
         SimpleKind::Free(pointer) => {
-            let pointer = build_value(alloc, section, function, int_pointer(), pointer)?;
-            Ok(TypedSimpleKind::Free(pointer.expr))
+            let pointer = build_value(alloc, section, function, int_pointer(), pointer.get())?;
+            Ok(TypedSimpleKind::Free(Boxed::new(alloc, pointer.expr)?))
         }
     }
 }
@@ -249,18 +249,17 @@ fn build_part(
     alloc: Global,
     section: &SectionScope,
     function: &FunctionScope,
-    part: &Option<SimpleTree>,
-) -> Result<Option<TypedSimple>, OutOfMemory>
+    part: &Option<Boxed<SimpleTree>>,
+) -> Result<Option<Boxed<TypedSimple>>, OutOfMemory>
     ensures { IfOk result (λ built. built ≡ part_in section.now function.now part.now) }
 {
     match part {
         None => Ok(None),
         Some(simple) => {
-            let kind = build_simple_kind(alloc, section, function, simple.kind.get())?;
-            Ok(Some(TypedSimple {
-                line: simple.line,
-                kind,
-            }))
+            let simple = simple.get();
+            let kind = build_simple_kind(alloc, section, function, &simple.kind)?;
+            let line = simple.line;
+            Ok(Some(Boxed::new(alloc, TypedSimple { line, kind })?))
         }
     }
 }
@@ -330,7 +329,7 @@ fn malloc_kind(
     section: &SectionScope,
     function: &FunctionScope,
     place: &PlaceTree,
-    count: &Option<ExprTree>,
+    count: &Option<Boxed<ExprTree>>,
     of: &TypeName,
 ) -> Result<TypedStmtKind, OutOfMemory>
     ensures { IfOk result (λ built. built ≡
@@ -356,7 +355,7 @@ fn free_kind(
     ensures { IfOk result (λ built. built ≡ kind_in section.now function.now (StmtKind.Free pointer.now)) }
 {
     let pointer = build_value(alloc, section, function, int_pointer(), pointer)?;
-    Ok(TypedStmtKind::Free(pointer.expr))
+    Ok(TypedStmtKind::Free(Boxed::new(alloc, pointer.expr)?))
 }
 
 // A call whose result is returned.
@@ -384,7 +383,7 @@ fn return_value_kind(
     ensures { IfOk result (λ built. built ≡ kind_in section.now function.now (StmtKind.ReturnValue value.now)) }
 {
     let value = build_returned(alloc, section, function, value)?;
-    Ok(TypedStmtKind::ReturnValue(value))
+    Ok(TypedStmtKind::ReturnValue(Boxed::new(alloc, value)?))
 }
 
 // An `if` over what its parts do.
@@ -401,7 +400,7 @@ fn if_kind(
 {
     let cond = build_expr(alloc, section, function, cond)?;
     Ok(TypedStmtKind::If {
-        cond: cond.expr,
+        cond: Boxed::new(alloc, cond.expr)?,
         then_part,
         else_part,
     })
@@ -419,7 +418,7 @@ fn while_kind(
 {
     let cond = build_expr(alloc, section, function, cond)?;
     Ok(TypedStmtKind::While {
-        cond: cond.expr,
+        cond: Boxed::new(alloc, cond.expr)?,
         body,
     })
 }
@@ -429,9 +428,9 @@ fn for_kind(
     alloc: Global,
     section: &SectionScope,
     function: &FunctionScope,
-    first: &Option<SimpleTree>,
+    first: &Option<Boxed<SimpleTree>>,
     cond: &ExprTree,
-    next: &Option<SimpleTree>,
+    next: &Option<Boxed<SimpleTree>>,
     body: TypedStmts,
 ) -> Result<TypedStmtKind, OutOfMemory>
     ensures { IfOk result (λ built. built ≡ TypedStmtKind.For (part_in section.now function.now first.now)
@@ -442,7 +441,7 @@ fn for_kind(
     let next = build_part(alloc, section, function, next)?;
     Ok(TypedStmtKind::For {
         first,
-        cond: cond.expr,
+        cond: Boxed::new(alloc, cond.expr)?,
         next,
         body,
     })
@@ -494,15 +493,15 @@ fn build_kind(
 {
     match kind {
         StmtKind::Empty => Ok(TypedStmtKind::Empty),
-        StmtKind::Assign { place, value } => assign_kind(alloc, section, function, place, value),
+        StmtKind::Assign { place, value } => assign_kind(alloc, section, function, place, value.get()),
         StmtKind::AssignCall { place, call } => {
-            assign_call_kind(alloc, section, function, place, call)
+            assign_call_kind(alloc, section, function, place, call.get())
         }
-        StmtKind::Call(call) => call_kind(alloc, section, function, call),
+        StmtKind::Call(call) => call_kind(alloc, section, function, call.get()),
         StmtKind::Malloc { place, count, of } => {
-            malloc_kind(alloc, section, function, place, count, of)
+            malloc_kind(alloc, section, function, place, count, of.get())
         }
-        StmtKind::Free(pointer) => free_kind(alloc, section, function, pointer),
+        StmtKind::Free(pointer) => free_kind(alloc, section, function, pointer.get()),
         StmtKind::If {
             cond,
             then_part,
@@ -510,11 +509,11 @@ fn build_kind(
         } => {
             let then_part = build_stmts(alloc, section, function, then_part)?;
             let else_part = build_stmts(alloc, section, function, else_part)?;
-            if_kind(alloc, section, function, cond, then_part, else_part)
+            if_kind(alloc, section, function, cond.get(), then_part, else_part)
         }
         StmtKind::While { cond, body } => {
             let body = build_stmts(alloc, section, function, body)?;
-            while_kind(alloc, section, function, cond, body)
+            while_kind(alloc, section, function, cond.get(), body)
         }
         StmtKind::For {
             first,
@@ -523,12 +522,12 @@ fn build_kind(
             body,
         } => {
             let body = build_stmts(alloc, section, function, body)?;
-            for_kind(alloc, section, function, first, cond, next, body)
+            for_kind(alloc, section, function, first, cond.get(), next, body)
         }
         StmtKind::Break => Ok(TypedStmtKind::Break),
         StmtKind::Continue => Ok(TypedStmtKind::Continue),
         StmtKind::Return => Ok(TypedStmtKind::Return),
-        StmtKind::ReturnValue(value) => return_value_kind(alloc, section, function, value),
-        StmtKind::ReturnCall(call) => return_call_kind(alloc, section, function, call),
+        StmtKind::ReturnValue(value) => return_value_kind(alloc, section, function, value.get()),
+        StmtKind::ReturnCall(call) => return_call_kind(alloc, section, function, call.get()),
     }
 }

@@ -14,6 +14,7 @@ use sc_ast::{
     TypeName,
 };
 use sc_base::{Name, NameList};
+use sqlite_items::Boxed;
 
 /// Notes the lines of statements, which stand in a loop or not, at which rules of names are broken. The parameters
 /// and the locals of the function are `own`.
@@ -47,29 +48,29 @@ fn stmt_lines(
     match &stmt.kind {
         StmtKind::Empty => {}
         StmtKind::Assign { place, value } => {
-            let holds = knows(names, own, place.get()) && knows(names, own, value);
+            let holds = knows(names, own, place.get()) && knows(names, own, value.get());
             lines.unless(holds, line);
         }
         StmtKind::AssignCall { place, call } => {
-            let holds = knows(names, own, place.get()) && call_known(names, own, call);
+            let holds = knows(names, own, place.get()) && call_known(names, own, call.get());
             lines.unless(holds, line);
         }
-        StmtKind::Call(call) => lines.unless(call_known(names, own, call), line),
+        StmtKind::Call(call) => lines.unless(call_known(names, own, call.get()), line),
         StmtKind::Malloc { place, count, of } => {
-            lines.unless(malloc_known(names, own, place, count, of), line);
+            lines.unless(malloc_known(names, own, place, count, of.get()), line);
         }
-        StmtKind::Free(pointer) => lines.unless(knows(names, own, pointer), line),
+        StmtKind::Free(pointer) => lines.unless(knows(names, own, pointer.get()), line),
         StmtKind::If {
             cond,
             then_part,
             else_part,
         } => {
-            lines.unless(knows(names, own, cond), line);
+            lines.unless(knows(names, own, cond.get()), line);
             all_lines(names, own, then_part, looping, lines);
             all_lines(names, own, else_part, looping, lines);
         }
         StmtKind::While { cond, body } => {
-            lines.unless(knows(names, own, cond), line);
+            lines.unless(knows(names, own, cond.get()), line);
             all_lines(names, own, body, true, lines);
         }
         StmtKind::For {
@@ -79,15 +80,15 @@ fn stmt_lines(
             body,
         } => {
             part_lines(names, own, first, lines);
-            lines.unless(knows(names, own, cond), line);
+            lines.unless(knows(names, own, cond.get()), line);
             part_lines(names, own, next, lines);
             all_lines(names, own, body, true, lines);
         }
         StmtKind::Break => lines.unless(looping, line),
         StmtKind::Continue => lines.unless(looping, line),
         StmtKind::Return => {}
-        StmtKind::ReturnValue(value) => lines.unless(knows(names, own, value), line),
-        StmtKind::ReturnCall(call) => lines.unless(call_known(names, own, call), line),
+        StmtKind::ReturnValue(value) => lines.unless(knows(names, own, value.get()), line),
+        StmtKind::ReturnCall(call) => lines.unless(call_known(names, own, call.get()), line),
     }
 }
 
@@ -95,14 +96,17 @@ fn stmt_lines(
 fn part_lines(
     names: &SectionNames,
     own: &NameList,
-    part: &Option<SimpleTree>,
+    part: &Option<Boxed<SimpleTree>>,
     lines: &mut BrokenLines,
 )
     ensures { lines.new ≡ with_lines lines.old (part_name_lines (known names.now own.now) part.now) }
 {
     match part {
         None => {}
-        Some(simple) => lines.unless(simple_known(names, own, simple.kind.get()), simple.line),
+        Some(simple) => {
+            let simple = simple.get();
+            lines.unless(simple_known(names, own, &simple.kind), simple.line);
+        },
     }
 }
 
@@ -111,14 +115,14 @@ fn simple_known(names: &SectionNames, own: &NameList, kind: &SimpleKind) -> bool
 {
     match kind {
         SimpleKind::Assign { place, value } => {
-            knows(names, own, place.get()) && knows(names, own, value)
+            knows(names, own, place.get()) && knows(names, own, value.get())
         }
         SimpleKind::AssignCall { place, call } => {
-            knows(names, own, place.get()) && call_known(names, own, call)
+            knows(names, own, place.get()) && call_known(names, own, call.get())
         }
-        SimpleKind::Call(call) => call_known(names, own, call),
-        SimpleKind::Malloc { place, count, of } => malloc_known(names, own, place, count, of),
-        SimpleKind::Free(pointer) => knows(names, own, pointer),
+        SimpleKind::Call(call) => call_known(names, own, call.get()),
+        SimpleKind::Malloc { place, count, of } => malloc_known(names, own, place, count, of.get()),
+        SimpleKind::Free(pointer) => knows(names, own, pointer.get()),
     }
 }
 
@@ -126,14 +130,23 @@ fn malloc_known(
     names: &SectionNames,
     own: &NameList,
     place: &PlaceTree,
-    count: &Option<ExprTree>,
+    count: &Option<Boxed<ExprTree>>,
     of: &TypeName,
 ) -> bool
     ensures { result ≡ malloc_known (known names.now own.now) place.now count.now of.now }
 {
     knows(names, own, place.get())
-        && option_knows(names, own, count)
+        && count_known(names, own, count)
         && base_known(&names.structs, &of.base)
+}
+
+fn count_known(names: &SectionNames, own: &NameList, count: &Option<Boxed<ExprTree>>) -> bool
+    ensures { result ≡ option_knows names.now.structs (names.now.globals ++ own.now) count.now }
+{
+    match count {
+        None => true,
+        Some(count) => knows(names, own, count.get()),
+    }
 }
 
 fn call_known(names: &SectionNames, own: &NameList, call: &CallTree) -> bool
@@ -170,7 +183,7 @@ fn knows(names: &SectionNames, own: &NameList, expr: &ExprTree) -> bool
 {
     match expr {
         ExprTree::Literal(_) => true,
-        ExprTree::Variable(name) => is_variable(names, own, name.name()),
+        ExprTree::Variable(name) => is_variable(names, own, name.get().name()),
         ExprTree::Unary { of, .. } => knows(names, own, of.get()),
         ExprTree::Binary { left, right, .. } => {
             knows(names, own, left.get()) && knows(names, own, right.get())
@@ -182,7 +195,7 @@ fn knows(names: &SectionNames, own: &NameList, expr: &ExprTree) -> bool
         ExprTree::Arrow { base, .. } => knows(names, own, base.get()),
         ExprTree::Deref(of) => knows(names, own, of.get()),
         ExprTree::Address(of) => knows(names, own, of.get()),
-        ExprTree::SizeOf(of) => base_known(&names.structs, &of.base),
+        ExprTree::SizeOf(of) => base_known(&names.structs, &of.get().base),
     }
 }
 

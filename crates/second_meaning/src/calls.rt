@@ -10,6 +10,7 @@ use sc_core::{
     TypedStmtKind, TypedStmts, Value,
 };
 use sc_event::{Args, CompId, Entry, Event};
+use sqlite_items::Boxed;
 
 /// How control leaves statements.
 #[derive(Clone, Copy)]
@@ -251,30 +252,30 @@ impl<'a> Run<'a> {
         let below = less(fuel)?;
         let line = statement.line;
         match &statement.kind {
-            TypedStmtKind::Assign { place, value } => self.assign(frame, line, place, value)?,
+            TypedStmtKind::Assign { place, value } => self.assign(frame, line, place, value.get())?,
             TypedStmtKind::AssignCall { place, call } => {
-                self.assign_call(below, frame, line, place, call)?;
+                self.assign_call(below, frame, line, place, call.get())?;
             }
             TypedStmtKind::Call(call) => {
-                let _given = self.call(below, frame, line, call)?;
+                let _given = self.call(below, frame, line, call.get())?;
             }
             TypedStmtKind::Malloc {
                 place,
                 count,
                 cells,
             } => self.allocate(frame, line, place, count, *cells)?,
-            TypedStmtKind::Free(pointer) => self.free(frame, line, pointer)?,
+            TypedStmtKind::Free(pointer) => self.free(frame, line, pointer.get())?,
             TypedStmtKind::If {
                 cond,
                 then_part,
                 else_part,
             } => {
-                let value = self.value(frame, line, cond)?;
+                let value = self.value(frame, line, cond.get())?;
                 let part = if is_true(value) { then_part } else { else_part };
                 return self.statements(below, frame, part.as_slice());
             }
             TypedStmtKind::While { cond, body } => {
-                let parts = Loop::new(line, cond, body, None);
+                let parts = Loop::new(line, cond.get(), body, None);
                 return self.rounds(below, frame, &parts);
             }
             TypedStmtKind::For {
@@ -283,15 +284,15 @@ impl<'a> Run<'a> {
                 next,
                 body,
             } => {
-                self.simple(below, frame, first.as_ref())?;
-                let parts = Loop::new(line, cond, body, next.as_ref());
+                self.simple(below, frame, first.as_ref().map(Boxed::get))?;
+                let parts = Loop::new(line, cond.get(), body, next.as_ref().map(Boxed::get));
                 return self.rounds(below, frame, &parts);
             }
             TypedStmtKind::ReturnValue(expr) => {
-                return Ok(Exit::Return(Some(self.value(frame, line, expr)?)));
+                return Ok(Exit::Return(Some(self.value(frame, line, expr.get())?)));
             }
             TypedStmtKind::ReturnCall(call) => {
-                return Ok(Exit::Return(self.call(below, frame, line, call)?));
+                return Ok(Exit::Return(self.call(below, frame, line, call.get())?));
             }
             kind => return Ok(jump(kind)),
         }
@@ -329,19 +330,19 @@ impl<'a> Run<'a> {
         };
         let line = simple.line;
         match &simple.kind {
-            TypedSimpleKind::Assign { place, value } => self.assign(frame, line, place, value)?,
+            TypedSimpleKind::Assign { place, value } => self.assign(frame, line, place, value.get())?,
             TypedSimpleKind::AssignCall { place, call } => {
-                self.assign_call(below, frame, line, place, call)?;
+                self.assign_call(below, frame, line, place, call.get())?;
             }
             TypedSimpleKind::Call(call) => {
-                let _given = self.call(below, frame, line, call)?;
+                let _given = self.call(below, frame, line, call.get())?;
             }
             TypedSimpleKind::Malloc {
                 place,
                 count,
                 cells,
             } => self.allocate(frame, line, place, count, *cells)?,
-            TypedSimpleKind::Free(pointer) => self.free(frame, line, pointer)?,
+            TypedSimpleKind::Free(pointer) => self.free(frame, line, pointer.get())?,
         }
         Ok(())
     }

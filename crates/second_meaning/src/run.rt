@@ -9,6 +9,7 @@ use sc_core::{
     TypedStruct, Value, Want, cells_of,
 };
 use sc_event::{CompId, Entry, Event, Trace};
+use sqlite_items::Boxed;
 use std::alloc::{AllocError, AllocFailed, Global};
 
 /// Why a run goes no further: it has come to the end that it keeps, or memory is missing.
@@ -233,11 +234,11 @@ impl<'a> Run<'a> {
     }
 
     // How many elements are allocated: one where no count stands.
-    fn count(&mut self, frame: &Frame, line: u32, count: &Option<TypedExpr>) -> Result<u32, Halt> {
+    fn count(&mut self, frame: &Frame, line: u32, count: &Option<Boxed<TypedExpr>>) -> Result<u32, Halt> {
         let Some(count) = count else {
             return Ok(1);
         };
-        let count = match self.value(frame, line, count)? {
+        let count = match self.value(frame, line, count.get())? {
             Value::Word(word) => Ok(word),
             _ => Err(Cause::BadType),
         };
@@ -251,7 +252,7 @@ impl<'a> Run<'a> {
         frame: &Frame,
         line: u32,
         place: &TypedPlace,
-        count: &Option<TypedExpr>,
+        count: &Option<Boxed<TypedExpr>>,
         cells: u32,
     ) -> Result<(), Halt> {
         let count = self.count(frame, line, count)?;

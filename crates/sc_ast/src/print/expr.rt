@@ -12,6 +12,7 @@ use crate::print::types::append_type;
 use crate::print::words::{append_closed, append_literal, append_opened};
 use crate::types::TypeName;
 use sc_base::{BinaryOp, LOOSEST, OutOfMemory, POSTFIX, Text, UNARY, UnaryOp, level_of};
+use sqlite_items::Boxed;
 
 fn unary_text(op: UnaryOp) -> &'static [u8]
     ensures { result.now ≡ unary_text op }
@@ -101,7 +102,7 @@ fn append_at(out: &mut Text, expr: &ExprTree, before: &[u8], level: u8) -> Resul
 {
     match expr {
         ExprTree::Literal(literal) => append_literal(out, literal),
-        ExprTree::Variable(name) => out.append(name.as_bytes()),
+        ExprTree::Variable(name) => out.append(name.get().as_bytes()),
         ExprTree::Unary { op, of } => append_prefixed(
             out,
             unary_text(*op),
@@ -122,16 +123,16 @@ fn append_at(out: &mut Text, expr: &ExprTree, before: &[u8], level: u8) -> Resul
         ExprTree::Member { base, name } => {
             append_at(out, base.get(), b"", POSTFIX)?;
             out.append(b".")?;
-            out.append(name.as_bytes())
+            out.append(name.get().as_bytes())
         }
         ExprTree::Arrow { base, name } => {
             append_at(out, base.get(), b"", POSTFIX)?;
             out.append(b"->")?;
-            out.append(name.as_bytes())
+            out.append(name.get().as_bytes())
         }
         ExprTree::Deref(of) => append_prefixed(out, b"*", of.get(), before, level),
         ExprTree::Address(of) => append_prefixed(out, b"&", of.get(), before, level),
-        ExprTree::SizeOf(of) => append_sizeof(out, of),
+        ExprTree::SizeOf(of) => append_sizeof(out, of.get()),
     }
 }
 
@@ -198,7 +199,7 @@ pub fn append_place(out: &mut Text, place: &ExprTree) -> Result<(), OutOfMemory>
 /// Adds what stands in the parentheses of `malloc`.
 pub fn append_malloc_argument(
     out: &mut Text,
-    count: &Option<ExprTree>,
+    count: &Option<Boxed<ExprTree>>,
     of: &TypeName,
 ) -> Result<(), OutOfMemory>
     ensures { OnOk result (out.new ≡ out.old ++ text_of (expr_words (malloc_argument count.now of.now))) }
@@ -206,7 +207,7 @@ pub fn append_malloc_argument(
     match count {
         None => append_sizeof(out, of),
         Some(count) => {
-            append_at(out, count, b"", level_of(BinaryOp::Mul))?;
+            append_at(out, count.get(), b"", level_of(BinaryOp::Mul))?;
             append_operator(out, BinaryOp::Mul)?;
             append_sizeof(out, of)
         }

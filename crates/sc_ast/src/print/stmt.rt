@@ -15,6 +15,7 @@ use crate::print::words::{append_indent, deeper};
 use crate::stmt::{SimpleKind, SimpleTree, StmtKind, StmtTree, Stmts};
 use crate::types::TypeName;
 use sc_base::{OutOfMemory, Text};
+use sqlite_items::Boxed;
 
 fn append_assign(out: &mut Text, place: &PlaceTree, value: &ExprTree) -> Result<(), OutOfMemory>
     ensures { OnOk result (out.new ≡ out.old ++ text_of (assign_words place.now value.now)) }
@@ -34,7 +35,7 @@ fn append_assign_call(out: &mut Text, place: &PlaceTree, call: &CallTree) -> Res
 
 fn append_allocation(
     out: &mut Text,
-    count: &Option<ExprTree>,
+    count: &Option<Boxed<ExprTree>>,
     of: &TypeName,
 ) -> Result<(), OutOfMemory>
     ensures { OnOk result (out.new ≡ out.old ++ text_of (allocation_words count.now of.now)) }
@@ -47,7 +48,7 @@ fn append_allocation(
 fn append_malloc(
     out: &mut Text,
     place: &PlaceTree,
-    count: &Option<ExprTree>,
+    count: &Option<Boxed<ExprTree>>,
     of: &TypeName,
 ) -> Result<(), OutOfMemory>
     ensures { OnOk result (out.new ≡ out.old ++ text_of (malloc_words place.now count.now of.now)) }
@@ -69,11 +70,11 @@ fn append_simple(out: &mut Text, kind: &SimpleKind) -> Result<(), OutOfMemory>
     ensures { OnOk result (out.new ≡ out.old ++ text_of (simple_words kind.now)) }
 {
     match kind {
-        SimpleKind::Assign { place, value } => append_assign(out, place, value),
-        SimpleKind::AssignCall { place, call } => append_assign_call(out, place, call),
-        SimpleKind::Call(call) => append_call(out, call),
-        SimpleKind::Malloc { place, count, of } => append_malloc(out, place, count, of),
-        SimpleKind::Free(pointer) => append_free(out, pointer),
+        SimpleKind::Assign { place, value } => append_assign(out, place, value.get()),
+        SimpleKind::AssignCall { place, call } => append_assign_call(out, place, call.get()),
+        SimpleKind::Call(call) => append_call(out, call.get()),
+        SimpleKind::Malloc { place, count, of } => append_malloc(out, place, count, of.get()),
+        SimpleKind::Free(pointer) => append_free(out, pointer.get()),
     }
 }
 
@@ -86,29 +87,29 @@ fn append_condition(out: &mut Text, keyword: &[u8], cond: &ExprTree) -> Result<(
     out.append(b") ")
 }
 
-fn append_first(out: &mut Text, first: &Option<SimpleTree>) -> Result<(), OutOfMemory>
+fn append_first(out: &mut Text, first: &Option<Boxed<SimpleTree>>) -> Result<(), OutOfMemory>
     ensures { OnOk result (out.new ≡ out.old ++ text_of (first_words first.now)) }
 {
     match first {
         None => Ok(()),
-        Some(simple) => append_simple(out, simple.kind.get()),
+        Some(simple) => append_simple(out, &simple.get().kind),
     }
 }
 
-fn append_next(out: &mut Text, next: &Option<SimpleTree>) -> Result<(), OutOfMemory>
+fn append_next(out: &mut Text, next: &Option<Boxed<SimpleTree>>) -> Result<(), OutOfMemory>
     ensures { OnOk result (out.new ≡ out.old ++ text_of (next_words next.now)) }
 {
     match next {
         None => Ok(()),
         Some(simple) => {
             out.push(b' ')?;
-            append_simple(out, simple.kind.get())
+            append_simple(out, &simple.get().kind)
         }
     }
 }
 
 // `for (x = e; `
-fn append_for(out: &mut Text, first: &Option<SimpleTree>) -> Result<(), OutOfMemory>
+fn append_for(out: &mut Text, first: &Option<Boxed<SimpleTree>>) -> Result<(), OutOfMemory>
     ensures { OnOk result (out.new ≡ out.old ++ text_of
         (word (codes "for") ∷ blank ∷ word (codes "(") ∷ (first_words first.now ++ word (codes ";") ∷ blank ∷ []))) }
 {
@@ -121,7 +122,7 @@ fn append_for(out: &mut Text, first: &Option<SimpleTree>) -> Result<(), OutOfMem
 fn append_turn(
     out: &mut Text,
     cond: &ExprTree,
-    next: &Option<SimpleTree>,
+    next: &Option<Boxed<SimpleTree>>,
 ) -> Result<(), OutOfMemory>
     ensures { OnOk result (out.new ≡ out.old ++ text_of
         (expr_words cond.now ++ word (codes ";") ∷ (next_words next.now ++ word (codes ")") ∷ blank ∷ []))) }
@@ -159,23 +160,23 @@ fn append_kind(out: &mut Text, kind: &StmtKind, depth: u32) -> Result<(), OutOfM
     match kind {
         StmtKind::Empty => out.append(b";"),
         StmtKind::Assign { place, value } => {
-            append_assign(out, place, value)?;
+            append_assign(out, place, value.get())?;
             out.append(b";")
         }
         StmtKind::AssignCall { place, call } => {
-            append_assign_call(out, place, call)?;
+            append_assign_call(out, place, call.get())?;
             out.append(b";")
         }
         StmtKind::Call(call) => {
-            append_call(out, call)?;
+            append_call(out, call.get())?;
             out.append(b";")
         }
         StmtKind::Malloc { place, count, of } => {
-            append_malloc(out, place, count, of)?;
+            append_malloc(out, place, count, of.get())?;
             out.append(b";")
         }
         StmtKind::Free(pointer) => {
-            append_free(out, pointer)?;
+            append_free(out, pointer.get())?;
             out.append(b";")
         }
         StmtKind::If {
@@ -183,12 +184,12 @@ fn append_kind(out: &mut Text, kind: &StmtKind, depth: u32) -> Result<(), OutOfM
             then_part,
             else_part,
         } => {
-            append_condition(out, b"if", cond)?;
+            append_condition(out, b"if", cond.get())?;
             append_block(out, then_part, depth)?;
             append_else(out, else_part, depth)
         }
         StmtKind::While { cond, body } => {
-            append_condition(out, b"while", cond)?;
+            append_condition(out, b"while", cond.get())?;
             append_block(out, body, depth)
         }
         StmtKind::For {
@@ -198,14 +199,14 @@ fn append_kind(out: &mut Text, kind: &StmtKind, depth: u32) -> Result<(), OutOfM
             body,
         } => {
             append_for(out, first)?;
-            append_turn(out, cond, next)?;
+            append_turn(out, cond.get(), next)?;
             append_block(out, body, depth)
         }
         StmtKind::Break => out.append(b"break;"),
         StmtKind::Continue => out.append(b"continue;"),
         StmtKind::Return => out.append(b"return;"),
-        StmtKind::ReturnValue(value) => append_return_value(out, value),
-        StmtKind::ReturnCall(call) => append_return_call(out, call),
+        StmtKind::ReturnValue(value) => append_return_value(out, value.get()),
+        StmtKind::ReturnCall(call) => append_return_call(out, call.get()),
     }
 }
 
