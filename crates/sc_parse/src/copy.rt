@@ -2,7 +2,7 @@
 
 ghost use Rattle.std.specs.Prelude.{◌≡◌, IfOk};
 
-use sc_ast::ExprTree;
+use sc_ast::{ExprTree, TypeName};
 use sqlite_items::Boxed;
 use std::alloc::{AllocError, Global};
 
@@ -37,7 +37,10 @@ pub fn copy_expr(alloc: Global, expr: &ExprTree) -> Result<ExprTree, AllocError>
         }),
         ExprTree::Deref(of) => Ok(ExprTree::Deref(copy_boxed(alloc, of)?)),
         ExprTree::Address(of) => Ok(ExprTree::Address(copy_boxed(alloc, of)?)),
-        ExprTree::SizeOf(of) => Ok(ExprTree::SizeOf(Boxed::new(alloc, *of.get())?)),
+        ExprTree::SizeOf(of) => {
+            let TypeName { base, stars } = *of.get();
+            ExprTree::size_of(alloc, base, stars)
+        }
     }
 }
 

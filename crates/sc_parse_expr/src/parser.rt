@@ -23,7 +23,7 @@ use crate::operator::{
     Extension, Prefix, extension_level, extension_of, prefix_of, prefixed, right_level_of,
 };
 use crate::types::{name_at, type_in_parens};
-use sc_ast::{ExprTree, Ident};
+use sc_ast::{ExprTree, Ident, TypeName};
 use sc_base::{BinaryOp, LOOSEST, MAX_BRACKETS, MAX_HEIGHT, UNARY};
 use sqlite_items::Boxed;
 use std::alloc::{AllocError, Global};
@@ -191,8 +191,9 @@ fn parse_size(alloc: Global, free: u32, rest: &mut Lexemes<'_>) -> Answer
     ensures low { IfOk result (λ x. x.height ≡ 1) }
 {
     if free > 0 {
-        let of = type_in_parens(rest)?;
-        Ok(build(alloc, ExprTree::SizeOf(Boxed::new(alloc, of)?), 1)?)
+        let TypeName { base, stars } = type_in_parens(rest)?;
+        let size = ExprTree::size_of(alloc, base, stars)?;
+        Ok(build(alloc, size, 1)?)
     } else {
         Err(refused(rest))
     }
