@@ -258,9 +258,7 @@ pub fn simple<'a>(
             let to = To::Place(place.get(), part.line);
             call(program, run, made.get(), to, part.line)
         }
-        TypedSimpleKind::Call(made) => {
-            call(program, run, made.get(), To::Nowhere, part.line)
-        }
+        TypedSimpleKind::Call(made) => { call(program, run, made.get(), To::Nowhere, part.line) }
         TypedSimpleKind::Malloc {
             place,
             count,

@@ -5,7 +5,7 @@ ghost use Rattle.sc_run.specs.Prelude.{here_of, in_order, leave, left_at, loop, 
 ghost use Rattle.sc_run.specs.Prelude.{AnotherSuffices, block_nodes, block_weight, kept_by, leaf_weight, loop_weight};
 ghost use Rattle.sc_run.specs.Prelude.{place_weight, stmt_weight, way_in};
 ghost use Rattle.std.specs.Prelude.{◌≡◌, ◌≤◌, ◌+◌, ◌*◌, IfOk, Some, length};
-ghost use Rattle.std.specs.Option.{option_map};
+ghost use Rattle.std.specs.Option.{option_copied};
 ghost use Rattle.sc_core.specs.declared.value.Want.TheVariants as want;
 
 use crate::heap::{free, malloc};
@@ -22,7 +22,7 @@ use sqlite_items::Boxed;
 
 // The statement in the head of a `for`, if it is there.
 fn part_of(part: &Option<Boxed<TypedSimple>>) -> Option<&TypedSimple>
-    ensures { option_map (λ found. found.now) result ≡ part.now }
+    ensures { option_copied result ≡ part.now }
 {
     match part {
         None => None,

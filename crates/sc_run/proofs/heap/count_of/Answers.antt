@@ -7,4 +7,4 @@ returns-in-None c = rw c.in-None.is (computed_comes (here_of c.args.frame.now.sc
     (λ bs. refl) (kept_by c.args.machine.now) refl)
 
 pub returns-in-Some : goal.returns-in-Some
-returns-in-Some c = rw c.in-Some.is c.evaluated.ensures
+returns-in-Some c = rw (c.in-Some.is, ← c.get.ensures) c.evaluated.ensures

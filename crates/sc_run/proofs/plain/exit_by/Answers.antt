@@ -3,5 +3,5 @@ use Rattle.sc_run.proofs.Ahead.{value_leaves}
 use Rattle.sc_run.proofs.plain.exit_by.Goals as goal
 
 pub returns-in-Ok : goal.returns-in-Ok
-returns-in-Ok c = value_leaves c.args.program.now c.args.frame.now c.args.stmt.now _
-    (c.in-ReturnValue.is ∙ sym (rolls-ReturnValue _)) c.in-Ok.ensures
+returns-in-Ok c = value_leaves c.args.program.now c.args.frame.now c.args.stmt.now
+    c.get.result.now (rw c.get.ensures (c.in-ReturnValue.is ∙ sym (rolls-ReturnValue _))) c.in-Ok.ensures

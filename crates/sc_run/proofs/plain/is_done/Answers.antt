@@ -7,5 +7,5 @@ returns-in-Empty c = empty_done c.args.program.now c.args.frame.now c.args.stmt.
 
 pub returns-in-Assign : goal.returns-in-Assign
 returns-in-Assign c = assign_done c.args.program.now c.args.frame.now c.args.stmt.now c.get.result.now
-    c.in-Assign.value c.is_assigned.result (kept_by c.args.machine.now) (kept_by c.is_assigned.new.machine)
-    (rw c.get.ensures.value (c.in-Assign.is ∙ sym (rolls-Assign _ _))) c.is_assigned.ensures
+    c.get-in-Assign.result.now c.is_assigned.result (kept_by c.args.machine.now) (kept_by c.is_assigned.new.machine)
+    (rw (c.get.ensures.value, c.get-in-Assign.ensures) (c.in-Assign.is ∙ sym (rolls-Assign _ _))) c.is_assigned.ensures
