@@ -133,6 +133,17 @@ impl Row {
         }
     }
 
+    // The cells of a variable that lives. None of an allocated block.
+    #[inline(always)]
+    fn variable(&self, block: usize) -> Option<&Cells>
+        ensures { IfSome result (λ cells. LivesWith (slice_get self.now block) cells.now) }
+    {
+        match cells_in(self.slots.as_slice(), block) {
+            Some(cells) => Some(cells),
+            None => None,
+        }
+    }
+
     pub fn cells(&self, block: usize) -> Result<&[Cell], BlockFault>
         ensures { MatchResult result
             (λ cells. cells_at self.now block ≡ Ok cells.now)
@@ -191,13 +202,13 @@ impl Row {
         }
     }
 
-    /// The word at an index of a block, where there is one: what `load` gives there.
+    /// The word at an index of a variable, where there is one: what `load` gives there.
     #[inline(always)]
     pub fn word(&self, block: usize, index: usize) -> Option<u32>
         ensures { IfSome result (λ word.
             load_cell self.now (Ptr (record { block = block; index = index })) ≡ Ok (Word word)) }
     {
-        match self.living(block) {
+        match self.variable(block) {
             Some(cells) => match cells.as_slice().get(index) {
                 Some(Cell::Word(word)) => Some(*word),
                 _ => None,

@@ -49,24 +49,25 @@ fn first_cell(cells: u32, unsigned: bool, word: u32) -> Option<u32>
     cells.checked_mul(word)
 }
 
-/// The place of an element of the array that a block is, by the cells of an element and the index.
+/// The cell with which an element of the array that a block is begins, by the cells of an element and the index.
 #[inline(always)]
-pub(crate) fn element_at(
+pub(crate) fn element_index(
     row: &Row,
     block: u64,
     cells: u32,
     unsigned: bool,
     word: u32,
-) -> Option<Pointer>
-    ensures { IfSome result (λ place. moved_on row.now cells unsigned
-        (Ptr (record { block = block; index = 0 })) (Word word) ≡ Ok (Ptr place)) }
+) -> Option<u32>
+    ensures { IfSome result (λ found. moved_on row.now cells unsigned
+        (Ptr (record { block = block; index = 0 })) (Word word)
+        ≡ Ok (Ptr (record { block = block; index = found }))) }
 {
     let index = first_cell(cells, unsigned, word)?;
     let count = row.count(block as usize)?;
     if index > count {
         return None;
     }
-    Some(Pointer { block, index })
+    Some(index)
 }
 
 /// The place of an element of the array that a block is, by the types of array and index.
@@ -82,7 +83,8 @@ pub(crate) fn element_place(
         (Ptr (record { block = block; index = 0 })) (Word word) ≡ Ok (Ptr place)) }
 {
     let cells = target_cells(scope.structs, types.0);
-    element_at(row, block, cells, types.1.is_unsigned(), word)
+    let index = element_index(row, block, cells, types.1.is_unsigned(), word)?;
+    Some(Pointer { block, index })
 }
 
 /// The word of an element of the array that a block is, by the types of array and index.

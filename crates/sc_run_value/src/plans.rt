@@ -1,7 +1,7 @@
 //! Plans of expressions and assignments: made once, before a loop, and followed in each of its rounds without a walk
 //! of the tree.
 
-ghost use Rattle.sc_run_value.specs.Prelude.{Ptr, Word, c_arith, here_of, is_pointer, memory_of, ways};
+ghost use Rattle.sc_run_value.specs.Prelude.{Ptr, Word, bind, c_arith, here_of, is_pointer, memory_of, moved_on, ways};
 ghost use Rattle.sc_run_value.specs.Assigning.{AssignedIf, HoldsIf};
 ghost use Rattle.sc_run_value.specs.Plans.{IsOperandOf, IsPlanOf, IsTargetOf, is_choice, operand_value, plan_value};
 ghost use Rattle.sc_run_value.specs.Plans.{target_place};
@@ -10,7 +10,7 @@ ghost use Rattle.sc_core.specs.declared.value.Want.TheVariants as want;
 
 use crate::Scope;
 use crate::at_once::{holds, is_assigned, is_stored};
-use crate::elements::{array_block, block_of, element_at};
+use crate::elements::{array_block, block_of, element_index};
 use crate::quick::of_two;
 use sc_base::BinaryOp;
 use sc_blocks::{Blocks, Row};
@@ -195,6 +195,16 @@ fn plan_word(row: &Row, plan: &Plan) -> Option<u32>
     }
 }
 
+// The cell with which an element begins, by the plan of its index.
+#[inline(never)]
+fn index_by(row: &Row, block: u64, cells: u32, unsigned: bool, index: &Plan) -> Option<u32>
+    ensures { IfSome result (λ found. bind (plan_value index.now row.now) (moved_on row.now cells unsigned
+        (Ptr (record { block = block; index = 0 }))) ≡ Ok (Ptr (record { block = block; index = found }))) }
+{
+    let word = plan_word(row, index)?;
+    element_index(row, block, cells, unsigned, word)
+}
+
 // The place that a target gives.
 #[inline(always)]
 fn place_by(row: &Row, target: &Target) -> Option<Pointer>
@@ -212,27 +222,27 @@ fn place_by(row: &Row, target: &Target) -> Option<Pointer>
             unsigned,
             index,
         } => {
-            let word = plan_word(row, index)?;
-            element_at(row, *block, *cells, *unsigned, word)
+            let index = index_by(row, *block, *cells, *unsigned, index)?;
+            Some(Pointer {
+                block: *block,
+                index,
+            })
         }
     }
 }
 
-// The place of an expression by a target.
+// The place and the word of an assignment, by its plan.
 #[inline(always)]
-fn planned_place(
-    blocks: &Blocks,
-    scope: &Scope,
-    target: &Target,
-    expr: &TypedExpr,
-) -> Option<Pointer>
-    requires { IsTargetOf target.now
-        (ways c_arith scope.now.structs.now (here_of scope.now) scope.now.params expr.now) }
-    ensures { IfSome result (λ place. ways c_arith scope.now.structs.now (here_of scope.now) scope.now.params expr.now
-        want.Place (memory_of blocks.now scope.now.comp.now) ≡ Ok (Ptr place)) }
+fn found_by(blocks: &Blocks, scope: &Scope, assignment: &Assignment) -> Option<(Pointer, u32)>
+    ensures place { IfSome result (λ found.
+        target_place assignment.now.target (memory_of blocks.now scope.now.comp.now) ≡ Ok (Ptr found.0)) }
+    ensures word { IfSome result (λ found.
+        plan_value assignment.now.plan (memory_of blocks.now scope.now.comp.now) ≡ Ok (Word found.1)) }
 {
     let row = blocks.row(*scope.comp)?;
-    place_by(row, target)
+    let word = plan_word(row, &assignment.plan)?;
+    let place = place_by(row, &assignment.target)?;
+    Some((place, word))
 }
 
 // The word of an expression by its plan.
@@ -273,15 +283,9 @@ pub fn is_assigned_by(blocks: &mut Blocks, scope: &Scope, assignment: &Assignmen
         (ways c_arith scope.now.structs.now (here_of scope.now) scope.now.params assignment.now.value.now)
         (memory_of blocks.old) (memory_of blocks.new) }
 {
-    let Some(word) = planned_word(blocks, scope, &assignment.plan, assignment.value) else {
+    let Some(found) = found_by(blocks, scope, assignment) else {
         return is_assigned(blocks, scope, assignment.place, assignment.value);
     };
-    if let Target::Variable(block) = assignment.target {
-        let place = Value::Ptr(Pointer { block, index: 0 });
-        return is_stored(blocks, *scope.comp, place, Value::Word(word));
-    }
-    let Some(place) = planned_place(blocks, scope, &assignment.target, assignment.place) else {
-        return is_assigned(blocks, scope, assignment.place, assignment.value);
-    };
+    let (place, word) = found;
     is_stored(blocks, *scope.comp, Value::Ptr(place), Value::Word(word))
 }
