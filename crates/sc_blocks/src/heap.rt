@@ -105,7 +105,20 @@ impl Heap {
     }
 
     /// Ends the blocks of the numbers from one on and below another.
+    #[inline(always)]
     pub fn end(&mut self, first: usize, end: usize)
+        requires { first ≤ end }
+        ensures { (from made : ℕ) → IsRising from made self.old → self.new ≡ without first end self.old }
+    {
+        if self.slots.is_empty() {
+            return;
+        }
+        self.end_between(first, end);
+    }
+
+    // Ends those of these numbers.
+    #[inline(never)]
+    fn end_between(&mut self, first: usize, end: usize)
         requires { first ≤ end }
         ensures { (from made : ℕ) → IsRising from made self.old → self.new ≡ without first end self.old }
     {

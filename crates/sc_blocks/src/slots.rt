@@ -94,6 +94,7 @@ pub(crate) fn below(slots: &[Slot], number: usize) -> usize
 }
 
 /// How many blocks have a lower number. It looks from the end, where the blocks of the last call stand.
+#[inline(never)]
 pub(crate) fn lower(slots: &[Slot], number: usize) -> usize
     ensures within { result ≤ length slots.now }
     ensures count { (from made : ℕ) → IsRising from made slots.now → result ≡ count_below number slots.now }

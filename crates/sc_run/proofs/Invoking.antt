@@ -214,7 +214,8 @@ module _ (program : ProgramTree) (f : Frame) (to : To) where
       (steps_on (λ n vs. calling target vs n) (rw (same, is) at c) (rw values_is at h))
 
   pub call_blamed_by : {cost : ℕ} {before : Seen} {work : List Work} (target : CallTarget)
-      {es given_es : List TypedExpr} (line : ℕ) {r : Result (List Value) RunEnd} {end : RunEnd} → given_es ≡ es → r ≡ Err end →
+      {es given_es : List TypedExpr} (line : ℕ) {r : Result (List Value) RunEnd} {end : RunEnd} → given_es ≡ es → r ≡
+      Err end →
       Comes before before r (given_args target given_es line) →
       Steps program cost before work f (whole_call target es line) (Stop end) before work f
   call_blamed_by target line same is c = steps_as (by_assoc target _ line)

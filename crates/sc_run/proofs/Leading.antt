@@ -3,7 +3,8 @@ use Rattle.sc_run.proofs.Common.{Body as Body', Bor, Caller, Comes, Doing, Exit,
 use Rattle.sc_run.proofs.Common.{Loop, None, Ok, Option, Passes, Place, ProgramTree, Reaches, ReachesOr, Rest}
 use Rattle.sc_run.proofs.Common.{Seen, Some, State, Step, Steps, To, TypedExpr, TypedStmt, Value, Work, [], ap, arith}
 use Rattle.sc_run.proofs.Common.{block_acts, call_acts, ended_so, follow, here_of, in_loop, in_order, in_round}
-use Rattle.sc_run.proofs.Common.{kept_by, leave, left_at, left_by, loop_acts, next_acts, refl, result_goes, store_at, subst, sym}
+use Rattle.sc_run.proofs.Common.{kept_by, leave, left_at, left_by, loop_acts, next_acts, refl, result_goes, store_at}
+use Rattle.sc_run.proofs.Common.{subst, sym}
 use Rattle.sc_run.proofs.Common.{length-append, suc, take, ◌-◌}
 use Rattle.sc_run.proofs.Common.{way_in, ℕ, ◌++◌, ◌+◌, ◌∙◌, ◌∷◌, ◌≡◌, ◌≤◌, ◌<◌, length, drop}
 use Rattle.sc_run.specs.declared.work.Run.{Run}
@@ -42,7 +43,8 @@ module _ {program : ProgramTree} where
   leads_as same h = record { leads = λ step last ws g k. steps_as same (h.leads step last ws g k) }
 
   -- what leads to where something is reached reaches it
-  pub onward : (b : Option Step) {cost middle_cost : ℕ} (rest : ℕ) {before middle : Seen} {work waits : List Work} {f g : Frame}
+  pub onward : (b : Option Step) {cost middle_cost : ℕ} (rest : ℕ) {before middle : Seen} {work waits : List Work}
+      {f g : Frame}
       {p q : Doing} (r : Doing) (last : List Work) (h : Frame) (later : Run) →
       middle.turns ≤ before.turns → Leads program cost before work f p middle_cost middle waits g q →
       ReachesOr program b middle_cost middle waits g q last h later rest r →
@@ -68,7 +70,8 @@ module _ {program : ProgramTree} where
   -- a call ends
   pub call_left : (f : Frame) (exit : Exit) (before : Seen) {work : List Work} {caller : Frame} (to : To)
       (v : Option Value) {ended : Seen} → ClosedBy program f exit (Ok v) → ended ≡ left_by f before →
-      Leads program 1 before (work ++ Caller caller to None ∷ []) f (λ n s. leave exit tt s) leaf_weight ended work caller
+      Leads program 1 before (work ++ Caller caller to None ∷ []) f (λ n s. leave exit tt s) leaf_weight ended work
+      caller
       (λ n s. result_goes program caller to v s)
   call_left f exit before to v is ends =
       record { leads = λ step last ws g k. return_steps program f exit before to None v is ends refl refl k }
@@ -92,7 +95,8 @@ module _ {program : ProgramTree} where
   is_all None is d = d
   is_all (Some step) is d = absurd (cc is)
 
-  pub is_step : (o : Option Step) {cost : ℕ} (rest : ℕ) {before : Seen} {work : List Work} (waits : List Work) {f : Frame}
+  pub is_step : (o : Option Step) {cost : ℕ} (rest : ℕ) {before : Seen} {work : List Work} (waits : List Work)
+      {f : Frame}
       (g : Frame) {p : Doing} (r : Doing) (later : Run) {step : Step} → o ≡ Some step →
       ReachesOr program o cost before work f p waits g later rest r →
       Steps program cost before work f p step (kept_by later.machine) later.work.items later.frame
@@ -119,7 +123,8 @@ module _ {program : ProgramTree} where
       (subst (λ ws. Steps program cost before ws f (r f) step last later h) same k)
 
   -- where a run got to, another goes on
-  pub then_reaches : {cost rest last : ℕ} {before : Seen} {p : Doing} {work : List Work} {f : Frame} {middle later : Run}
+  pub then_reaches : {cost rest last : ℕ} {before : Seen} {p : Doing} {work : List Work} {f : Frame}
+      {middle later : Run}
       (r q : Frame → Doing) → Reaches program cost before work f p work f middle rest (r f) →
       Reaches program rest (kept_by middle.machine) middle.work.items middle.frame (r middle.frame) middle.work.items
       middle.frame later last (q middle.frame) → Reaches program cost before work f p work f later last (q f)
@@ -145,7 +150,8 @@ module _ {program : ProgramTree} where
       (subst (λ ws. Steps program rest (kept_by middle.machine) ws middle.frame (r middle.frame) step last waits g)
       a.waiting d))
 
-  pub then_either : (b : Option Step) {cost rest : ℕ} (last : ℕ) {before : Seen} {p : Doing} {work : List Work} {f : Frame}
+  pub then_either : (b : Option Step) {cost rest : ℕ} (last : ℕ) {before : Seen} {p : Doing} {work : List Work}
+      {f : Frame}
       {middle : Run} (later : Run) (r q : Frame → Doing) →
       Reaches program cost before work f p work f middle rest (r f) →
       ReachesOr program b rest (kept_by middle.machine) middle.work.items middle.frame (r middle.frame)
@@ -170,7 +176,8 @@ module _ {program : ProgramTree} where
       }
 
   -- a call before statements that wait for it
-  pub before_rest : {before after : Seen} {work later : List Work} {f : Frame} {p : Doing} (rest : Bor (List TypedStmt)) →
+  pub before_rest : {before after : Seen} {work later : List Work} {f : Frame} {p : Doing}
+      (rest : Bor (List TypedStmt)) →
       later ≡ work ++ Rest rest ∷ [] → Leads program leaf_weight before later f p leaf_weight after later f ended_so →
       Leads program (8 + block_weight rest.now) before work f
       (λ n s. follow in_order (p n s) (block_acts program n f rest.now)) (suc (block_weight rest.now)) after work f
@@ -215,7 +222,8 @@ module _ (program : ProgramTree) (f : Frame) where
       (leads_here (omega arith))
 
   -- a call before statements
-  pub first_call : {stmt : TypedStmt} {made : TypedCall} {to : To} {line : ℕ} (stmts rest : List TypedStmt) {seen : Seen}
+  pub first_call : {stmt : TypedStmt} {made : TypedCall} {to : To} {line : ℕ} (stmts rest : List TypedStmt)
+      {seen : Seen}
       {work : List Work} → IsCall program stmt made to → line ≡ stmt.line → stmts ≡ stmt ∷ rest →
       Leads program (suc (block_weight stmts)) seen work f (λ n s. block_acts program n f stmts tt s)
       (8 + block_weight rest) seen work f (λ n s. follow in_order (call_acts program f made to line n s)
@@ -227,7 +235,8 @@ module _ (program : ProgramTree) (f : Frame) where
       (leads_here (omega (arith, ap (λ xs. block_nodes xs) split, some_nodes stmt)))
 
   module _ (l : Loop) (work : List Work) {first second third : Seen} {later : List Work}
-      (waits : later ≡ work ++ Body' l ∷ []) (next : Passes first second (λ n s. next_acts program n f l tt s) ended_so) where
+      (waits : later ≡ work ++ Body' l ∷ [])
+      (next : Passes first second (λ n s. next_acts program n f l tt s) ended_so) where
     -- the rest of another round, while the loop waits
     pub another_round : (at : Position) → Passes second third (λ n s. loop_acts program n f l tt s)
         (in_round program f l (Some at)) → IsLess l.body.now at → third.turns < second.turns →

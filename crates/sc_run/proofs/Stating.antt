@@ -1,6 +1,7 @@
 -- Statements, by their layers.
 use Rattle.sc_run.proofs.Common.{Bor, Doing, Exit, Frame, Left, List, Loop, Next, None, Option, Piece, ProgramTree}
-use Rattle.sc_run.proofs.Common.{Reached, Rest, Route, Seen, Some, State, Step, Steps, Stopped, TypedStmt, TypedStmtKind}
+use Rattle.sc_run.proofs.Common.{Reached, Rest, Route, Seen, Some, State, Step, Steps, Stopped, TypedStmt}
+use Rattle.sc_run.proofs.Common.{TypedStmtKind}
 use Rattle.sc_run.proofs.Common.{TypedStmtKind-F, Work, [], ap, arith, block_acts, c_arith, calls_in, drop, drop_all}
 use Rattle.sc_run.proofs.Common.{follow, get_or, here_of, in_order, kind_step, layer_of, leave, length, length-drop}
 use Rattle.sc_run.proofs.Common.{loop_acts, part_acts, refl, resume, roll-TypedStmtKind, stmt_acts, stmt_at, stmt_step}

@@ -146,8 +146,9 @@ module _ (program : ProgramTree) where
       (kept_by later.machine) later.work.items later.frame
 
   -- a step from where a run stands there is a step from where it stands here
-  pub record Leads (cost : ℕ) (before : Seen) (work : List Work) (f : Frame) (piece : ℕ → State → Piece (Left (Unit {0})))
-      (rest : ℕ) (after : Seen) (later : List Work) (g : Frame) (left : ℕ → State → Piece (Left (Unit {0}))) : Type 0 where
+  pub record Leads (cost : ℕ) (before : Seen) (work : List Work) (f : Frame)
+      (piece : ℕ → State → Piece (Left (Unit {0}))) (rest : ℕ) (after : Seen) (later : List Work) (g : Frame)
+      (left : ℕ → State → Piece (Left (Unit {0}))) : Type 0 where
     pub leads : (step : Step) (last : Seen) (waits : List Work) (h : Frame) →
         Steps rest after later g left step last waits h → Steps cost before work f piece step last waits h
 

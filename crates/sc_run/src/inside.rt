@@ -80,6 +80,9 @@ fn run_at_once<'a>(
         run.old.work.items run.old.frame run.new) }
 {
     let stmts = frame.function.body.as_slice();
+    if let Some(exit) = exit_at_once(program, &run.machine, frame, stmts) {
+        return Ok(returned(program, run, frame, to, exit));
+    }
     match done_first(program, &mut run.machine, frame, stmts) {
         None => Ok(returned(program, run, frame, to, Leaving::Next)),
         Some(at) => {

@@ -11,7 +11,7 @@ use crate::state::Machine;
 use crate::work::{Callee, Frame};
 use sc_base::OutOfMemory;
 use sc_blocks::Blocks;
-use sc_core::{Cause, RunEnd, TypedExpr, TypedLocal, Value, VarRef, Want, cells_of};
+use sc_core::{Cause, RunEnd, TypedExpr, TypedKind, TypedLocal, Value, VarRef, Want, cells_of};
 use sc_event::{CompId, Event};
 use std::alloc::AllocError;
 
@@ -43,7 +43,20 @@ pub fn evaluated(
     }
 }
 
+// The place of an expression.
+#[inline(always)]
+fn place_of(machine: &Machine, frame: &Frame, place: &TypedExpr, line: u32) -> Result<Value, RunEnd>
+    ensures { Comes (kept_by machine.now) (kept_by machine.now) result
+        (evaluated (here_of frame.now.scope) want.Place (way_in frame.now place.now) line) }
+{
+    if let TypedKind::Variable(name) = &place.kind {
+        return Ok(sc_run_value::variable_at(&frame.scope, *name));
+    }
+    evaluated(machine, frame, Want::Place, place, line)
+}
+
 /// Puts a value at a place.
+#[inline(always)]
 pub fn stored(
     machine: &mut Machine,
     frame: &Frame,
@@ -61,6 +74,7 @@ pub fn stored(
 }
 
 /// Evaluates a place, and puts a value there.
+#[inline(always)]
 pub fn store_at(
     machine: &mut Machine,
     frame: &Frame,
@@ -71,7 +85,7 @@ pub fn store_at(
     ensures { Comes (kept_by machine.old) (kept_by machine.new) (with_exit Next result)
         (store_at (here_of frame.now.scope) (way_in frame.now place.now) value line tt) }
 {
-    match evaluated(machine, frame, Want::Place, place, line) {
+    match place_of(machine, frame, place, line) {
         Ok(place) => stored(machine, frame, place, value, line),
         Err(end) => Err(end),
     }

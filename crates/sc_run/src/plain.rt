@@ -155,7 +155,11 @@ fn exit_by(program: &Program, machine: &Machine, frame: &Frame, stmt: &TypedStmt
     match &stmt.kind {
         TypedStmtKind::Return => Some(Leaving::Return(None)),
         TypedStmtKind::ReturnValue(value) => {
-            match sc_run_value::evaluate(&machine.blocks, &frame.scope, Want::Value, value.get()) {
+            let value = value.get();
+            if let Some(known) = sc_run_value::value_at_once(&machine.blocks, &frame.scope, value) {
+                return Some(Leaving::Return(Some(known)));
+            }
+            match sc_run_value::evaluate(&machine.blocks, &frame.scope, Want::Value, value) {
                 Ok(value) => Some(Leaving::Return(Some(value))),
                 Err(_) => None,
             }

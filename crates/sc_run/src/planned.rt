@@ -8,7 +8,7 @@ ghost use Rattle.sc_run_value.specs.Plans.{IsPlanOf};
 ghost use Rattle.std.specs.Prelude.{◌≡◌, ◌<◌, ◌≤◌, IfSome, Some, drop, length, slice_get, suc, true};
 ghost use Rattle.sc_core.specs.declared.stmt.TypedStmt.{TypedStmt};
 
-use crate::plain::{is_done, is_part_done};
+use crate::plain::{done_first, is_done, is_part_done};
 use crate::state::Machine;
 use crate::work::{Frame, Loop, Position};
 use sc_core::{Program, TypedSimple, TypedSimpleKind, TypedStmt, TypedStmtKind};
@@ -90,6 +90,24 @@ fn next_plan<'a>(frame: &Frame, whole: &Loop<'a>) -> Option<Assignment<'a>>
     }
 }
 
+/// Plans of the test of a loop, and of what comes before its next round.
+#[derive(Clone, Copy)]
+pub struct LoopPlan<'a> {
+    pub cond: Plan,
+    pub next: Option<Assignment<'a>>,
+}
+
+/// The plans of a loop.
+pub fn loop_plan<'a>(frame: &Frame, whole: &Loop<'a>) -> LoopPlan<'a>
+    ensures cond { IsPlanOf result.cond (way_in frame.now whole.now.cond.now) }
+    ensures next { IsNext frame.now whole.now result.next }
+{
+    LoopPlan {
+        cond: plan_of(&frame.scope, whole.cond),
+        next: next_plan(frame, whole),
+    }
+}
+
 // An assignment that meets no cause of blame, or nothing.
 #[inline(always)]
 fn is_assigned_by(machine: &mut Machine, frame: &Frame, assignment: &Assignment, line: u32) -> bool
@@ -165,9 +183,9 @@ fn is_part_done_by(
     }
 }
 
-// What comes before the next round of a loop, or nothing.
+/// What comes before the next round of a loop, or nothing.
 #[inline(always)]
-fn is_next_done_by(
+pub fn is_next_done_by(
     program: &Program,
     machine: &mut Machine,
     frame: &Frame,
@@ -207,6 +225,36 @@ fn is_begun_by(
     }
     machine.turns -= 1;
     true
+}
+
+/// As many rounds of a loop as are done at once, as `done_rounds` says, by its plans.
+pub fn done_rounds_by<'a>(
+    program: &'a Program,
+    machine: &mut Machine,
+    frame: &Frame,
+    whole: &Loop<'a>,
+    plan: &LoopPlan,
+) -> Option<Position<'a>>
+    requires cond { IsPlanOf plan.now.cond (way_in frame.now whole.now.cond.now) }
+    requires next { IsNext frame.now whole.now plan.now.next }
+    ensures within { IfSome result (λ at. at.count ≤ length whole.now.body.now) }
+    ensures less { IfSome result (λ at. IsLess whole.now.body.now at) }
+    ensures taken { IfSome result (λ at. machine.new.turns < machine.old.turns) }
+    ensures passes { Passes (kept_by machine.old) (kept_by machine.new)
+        (λ n. loop_acts program.now n frame.now whole.now tt) (in_round program.now frame.now whole.now result) }
+{
+    while is_begun_by(program, machine, frame, whole, &plan.cond) {
+        if let Some(at) = done_first(program, machine, frame, whole.body) {
+            return Some(at);
+        }
+        if !is_next_done_by(program, machine, frame, whole, &plan.next) {
+            return Some(Position {
+                part: &[],
+                count: whole.body.len(),
+            });
+        }
+    }
+    None
 }
 
 /// As many rounds of a loop with a short body as are done at once, as `done_rounds` says.

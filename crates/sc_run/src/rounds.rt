@@ -6,6 +6,7 @@ ghost use Rattle.std.specs.Prelude.{◌≡◌, ◌+◌, ◌≤◌, IfOk, IfSome,
 
 use crate::inside::made_at_once;
 use crate::plain::{done_first, done_rounds, is_next_done};
+use crate::planned::{done_rounds_by, is_next_done_by, loop_plan};
 use crate::steps::{begin_round, go_on};
 use crate::work::{Leaving, Loop, Made, Now, Position, Run, Step, To, Work};
 use sc_base::OutOfMemory;
@@ -115,7 +116,42 @@ fn done_from<'a>(
     }
 }
 
-/// Rounds of a loop that waits, from a place in its body, as far as they are done at once.
+// Rounds of a loop that waits, by its plans, from a place in its body, as far as they are done at once.
+fn rounds_by<'a>(
+    program: &'a Program,
+    run: &mut Run<'a, '_>,
+    whole: &Loop<'a>,
+    first: Position<'a>,
+) -> Result<Step<'a>, OutOfMemory>
+    requires within { first.count ≤ length whole.now.body.now }
+    requires less { IsLess whole.now.body.now first }
+    requires waits { WaitsFirst (Work.Body whole.now) run.old.work.items }
+    ensures { IfOk result (λ step. Advances program.now (place_weight whole.now.body.now first.entry) run.old
+        (left_at program.now run.old.frame whole.now.body.now (Some first.entry)) step run.new) }
+{
+    let plan = loop_plan(&run.frame, whole);
+    let mut at = first;
+    loop {
+        match done_from(program, run, whole.body, at) {
+            Ok(None) => {}
+            Ok(Some(step)) => return Ok(step),
+            Err(error) => return Err(error),
+        }
+        if !is_next_done_by(program, &mut run.machine, &run.frame, whole, &plan.next) {
+            return Ok(Step::Go(Now::Leave(Leaving::Next)));
+        }
+        match done_rounds_by(program, &mut run.machine, &run.frame, whole, &plan) {
+            None => {
+                run.work.pop();
+                return begin_round(program, run, whole);
+            }
+            Some(place) => at = place,
+        }
+    }
+}
+
+/// Rounds of a loop that waits, from a place in its body, as far as they are done at once. Plans are made
+/// for the second round and those after it.
 pub fn rounds<'a>(
     program: &'a Program,
     run: &mut Run<'a, '_>,
@@ -128,22 +164,19 @@ pub fn rounds<'a>(
     ensures { IfOk result (λ step. Advances program.now (place_weight whole.now.body.now first.entry) run.old
         (left_at program.now run.old.frame whole.now.body.now (Some first.entry)) step run.new) }
 {
-    let mut at = first;
-    loop {
-        match done_from(program, run, whole.body, at) {
-            Ok(None) => {}
-            Ok(Some(step)) => return Ok(step),
-            Err(error) => return Err(error),
+    match done_from(program, run, whole.body, first) {
+        Ok(None) => {}
+        Ok(Some(step)) => return Ok(step),
+        Err(error) => return Err(error),
+    }
+    if !is_next_done(program, &mut run.machine, &run.frame, whole) {
+        return Ok(Step::Go(Now::Leave(Leaving::Next)));
+    }
+    match done_rounds(program, &mut run.machine, &run.frame, whole) {
+        None => {
+            run.work.pop();
+            begin_round(program, run, whole)
         }
-        if !is_next_done(program, &mut run.machine, &run.frame, whole) {
-            return Ok(Step::Go(Now::Leave(Leaving::Next)));
-        }
-        match done_rounds(program, &mut run.machine, &run.frame, whole) {
-            None => {
-                run.work.pop();
-                return begin_round(program, run, whole);
-            }
-            Some(place) => at = place,
-        }
+        Some(place) => rounds_by(program, run, whole, place),
     }
 }

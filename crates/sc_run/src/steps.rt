@@ -13,7 +13,7 @@ use crate::inside::call_made;
 use crate::machine::{evaluated, take_turn};
 use crate::plain::{done_first, done_rounds};
 use crate::rounds::rounds;
-use crate::simple::{assigned, call, simple};
+use crate::simple::{assigned, simple};
 use crate::work::{Leaving, Loop, Made, Now, Position, Run, Step, To, Work};
 use sc_base::OutOfMemory;
 use sc_core::{Program, TypedExpr, TypedSimple, TypedStmt, TypedStmtKind, Want};
@@ -226,7 +226,11 @@ fn statement<'a>(
             cells,
         } => malloc(program, run, place.get(), count, *cells, line),
         TypedStmtKind::Free(pointer) => Ok(free(program, run, pointer.get(), line)),
-        TypedStmtKind::ReturnCall(made) => { call(program, run, made.get(), To::Back, line) }
+        TypedStmtKind::ReturnCall(call) => {
+            let to = To::Back;
+            let call = call.get();
+            call_made(program, run, &Made { call, to, line })
+        }
         TypedStmtKind::ReturnValue(value) => { Ok(returned_value(program, run, value.get(), line)) }
         TypedStmtKind::If {
             cond,

@@ -147,9 +147,9 @@ fn joined(
     }
 }
 
-// The value of an expression of integers only, or of an array by its name. None where it isn't found at once.
+/// The value of an expression of integers only, or of an array by its name. None where it isn't found at once.
 #[inline(always)]
-pub(crate) fn value_at_once(blocks: &Blocks, scope: &Scope, expr: &TypedExpr) -> Option<Value>
+pub fn value_at_once(blocks: &Blocks, scope: &Scope, expr: &TypedExpr) -> Option<Value>
     ensures { IfSome result (λ value. ways c_arith scope.now.structs.now (here_of scope.now) scope.now.params expr.now
         want.Value (memory_of blocks.now scope.now.comp.now) ≡ Ok value) }
 {

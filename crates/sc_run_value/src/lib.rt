@@ -16,7 +16,7 @@ mod words;
 pub use access::{cell_of, free, load, store};
 pub use arguments::{Arguments, are_found};
 pub use at_once::{holds, is_assigned};
-pub use expressions::{evaluate, evaluate_all, variable_at};
+pub use expressions::{evaluate, evaluate_all, value_at_once, variable_at};
 pub use plans::{
     Assignment, Operand, Plan, Target, assignment_of, holds_by, is_assigned_by, plan_of,
 };

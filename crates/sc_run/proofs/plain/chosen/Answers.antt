@@ -8,13 +8,15 @@ use Rattle.sc_run.proofs.plain.chosen.Goals as goal
 pub returns-then-is_true-clause-passes : goal.returns-then-is_true-clause-passes
 returns-then-is_true-clause-passes c = rw c.as_slice.ensures (chosen_part c.args.program.now c.args.frame.now
     c.args.stmt.now
-    c.get.result.now c.in-If.then_part c.in-If.else_part (rw c.get.ensures (c.in-If.is ∙ sym (rolls-If _ _ _))) c.in-Ok.ensures
+    c.get.result.now c.in-If.then_part c.in-If.else_part (rw c.get.ensures (c.in-If.is ∙ sym (rolls-If _ _ _)))
+    c.in-Ok.ensures
     (sym c.is_true.ensures ∙ c.if-is_true.true))
 
 pub returns-else-is_true-clause-passes : goal.returns-else-is_true-clause-passes
 returns-else-is_true-clause-passes c = rw c.as_slice-in-Ok.ensures (chosen_part c.args.program.now c.args.frame.now
     c.args.stmt.now
-    c.get.result.now c.in-If.then_part c.in-If.else_part (rw c.get.ensures (c.in-If.is ∙ sym (rolls-If _ _ _))) c.in-Ok.ensures
+    c.get.result.now c.in-If.then_part c.in-If.else_part (rw c.get.ensures (c.in-If.is ∙ sym (rolls-If _ _ _)))
+    c.in-Ok.ensures
     (sym c.is_true.ensures ∙ c.if-is_true.false))
 
 pub returns-then-is_true-clause-less : goal.returns-then-is_true-clause-less

@@ -9,7 +9,8 @@ returns-in-Assign c = λ stmt there.
     same_there c.args.stmts.now c.args.at c.index-stmts-at.result stmt (omega arith) c.index-stmts-at.is there in
     let is : c.index-stmts-at.result.kind ≡ roll-TypedStmtKind (layer.Assign c.get.result.now
     c.get-in-Assign.result.now) =
-    rw (c.get.ensures.value, c.get-in-Assign.ensures) (ap (λ s. s.kind) c.index-stmts-at.is ∙ c.in-Assign.is ∙ sym (rolls-Assign _ _)) in
+    rw (c.get.ensures.value, c.get-in-Assign.ensures) (ap (λ s. s.kind) c.index-stmts-at.is ∙ c.in-Assign.is ∙ sym
+    (rolls-Assign _ _)) in
     stmt_planned c.args.frame.now stmt c.assignment_of.result c.get.result.now c.get-in-Assign.result.now
     (ap (λ s. s.kind) (sym same) ∙ is) c.assignment_of.ensures.place c.assignment_of.ensures.value
     c.assignment_of.ensures.target c.assignment_of.ensures.plan

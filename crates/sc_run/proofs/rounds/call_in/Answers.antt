@@ -7,7 +7,8 @@ pub returns-in-AssignCall-clause-call : goal.returns-in-AssignCall-clause-call
 returns-in-AssignCall-clause-call c =
     record {
       acts = λ f n s. stmt_is c.args.program.now f c.args.stmt.now (layer.AssignCall c.get-in-AssignCall.result.now
-          c.get.result.now) (rw (c.get-in-AssignCall.ensures.value, c.get.ensures) (c.in-AssignCall.is ∙ sym (rolls-AssignCall _ _))) n s;
+          c.get.result.now) (rw (c.get-in-AssignCall.ensures.value, c.get.ensures)
+          (c.in-AssignCall.is ∙ sym (rolls-AssignCall _ _))) n s;
     }
 
 pub returns-in-Call-clause-call : goal.returns-in-Call-clause-call

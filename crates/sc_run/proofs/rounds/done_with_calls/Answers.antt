@@ -95,7 +95,8 @@ loop-at-preserved c =
     (drop-step stmts at c.index-stmts-at.result c.loop-at-test.true c.index-stmts-at.is ∙
     ap (λ xs. c.index-stmts-at.result ∷ xs) (sym (rest_at (at + 1) stmts))))
     (is_all c.in-Ok-None.field-0 c.in-Ok-None.field-0-is c.in-Ok-None.ensures))) refl refl
-    (then_passes c.in-Some-done_first.ensures.passes (passes_as (λ n s. no_part program c.made_before.new.run.frame rest place
+    (then_passes c.in-Some-done_first.ensures.passes (passes_as (λ n s. no_part program c.made_before.new.run.frame
+    rest place
     (none_in place.part.now c.is_empty-in-Some-done_first.ensures c.if-not-is_empty.false) n s ∙
     ap (λ xs. block_acts program n c.made_before.new.run.frame xs tt s) left) stays_so))
 

@@ -3,27 +3,23 @@ use Rattle.sc_run.proofs.Common.{next_acts, refl, rules, subst, ◌∙◌, Passe
 use Rattle.std.specs.Prelude.{vec_len}
 use Rattle.sc_run.proofs.Ahead.{steps_after, unchanged}
 use Rattle.sc_run.proofs.Leading.{another_round, before_round, is_all, is_step, last_out, leads_then, steps_there}
-use Rattle.sc_run.proofs.Leading.{then_reaches, then_steps}
+use Rattle.sc_run.proofs.Leading.{then_steps}
 use Rattle.sc_run.proofs.Looping.{steps_later}
 use Rattle.sc_run.proofs.rounds.rounds.Goals as goal
 
 pub returns-in-Ok-Some : goal.returns-in-Ok-Some
-returns-in-Ok-Some c =
-    then_steps (λ f. left_at c.args.program.now f c.args.whole.now.body.now (Some c.loop-step.at))
-    c.loop-step.invariant.2 (is_step c.in-Ok-Some.field-0 _ _ _ _ _ c.in-Ok-Some.field-0-is c.in-Ok-Some.ensures)
+returns-in-Ok-Some c = is_step c.in-Ok-Some.field-0 _ _ _ _ _ c.in-Ok-Some.field-0-is c.in-Ok-Some.ensures
 
 pub returns-then-not-is_next_done : goal.returns-then-not-is_next_done
 returns-then-not-is_next_done c = then_steps (λ f. ended_so)
-    (then_reaches (λ f. left_at c.args.program.now f c.args.whole.now.body.now (Some c.loop-step.at)) (λ f. ended_so)
-    c.loop-step.invariant.2 (is_all c.in-Ok-None.field-0 c.in-Ok-None.field-0-is c.in-Ok-None.ensures))
+    (is_all c.in-Ok-None.field-0 c.in-Ok-None.field-0-is c.in-Ok-None.ensures)
     (steps_after (unchanged c.if-not-is_next_done.ensures) (steps_later (omega arith) (λ n s. refl)))
 
 pub returns-in-None : goal.returns-in-None
 returns-in-None c =
     let program = c.args.program.now in
     let l = c.args.whole.now in
-    let done = then_reaches (λ f. left_at program f l.body.now (Some c.loop-step.at)) (λ f. ended_so)
-    c.loop-step.invariant.2 (is_all c.in-Ok-None.field-0 c.in-Ok-None.field-0-is c.in-Ok-None.ensures) in
+    let done = is_all c.in-Ok-None.field-0 c.in-Ok-None.field-0-is c.in-Ok-None.ensures in
     IfOk-weaker c.begin_round.result _ _ (λ step h. done.leads.leads _ _ _ _ ((before_round program
     c.args.run.now.frame l c.requires.waits.0 c.requires.waits.1
     (subst (λ f. Passes (kept_by c.done_from.new.run.machine) (kept_by c.is_next_done.new.machine)
@@ -34,24 +30,22 @@ returns-in-None c =
     (last_out c.requires.waits.0 (Body l) (vec_len c.done_from.new.run.work) (done.waiting ∙ c.requires.waits.1)
     c.pop.ensures.rest (search (rules, arith))) done.frame h))) c.begin_round.ensures
 
-pub loop-step-preserved : goal.loop-step-preserved
-loop-step-preserved c =
+pub rounds_by-requires-clause-waits : goal.rounds_by-requires-clause-waits
+rounds_by-requires-clause-waits c =
+    let done = is_all c.in-Ok-None.field-0 c.in-Ok-None.field-0-is c.in-Ok-None.ensures in
+    (c.requires.waits.0, done.waiting ∙ c.requires.waits.1)
+
+pub returns-in-Some : goal.returns-in-Some
+returns-in-Some c =
     let program = c.args.program.now in
     let l = c.args.whole.now in
-    let done = then_reaches (λ f. left_at program f l.body.now (Some c.loop-step.at)) (λ f. ended_so)
-    c.loop-step.invariant.2 (is_all c.in-Ok-None.field-0 c.in-Ok-None.field-0-is c.in-Ok-None.ensures) in (
-      c.in-Some.ensures.within,
-      c.in-Some.ensures.less,
-      record {
-        waiting = done.waiting;
-        frame = done.frame;
-        fewer = omega (arith, done.fewer, c.if-not-is_next_done.ensures.fewer, c.in-Some.ensures.taken);
-        leads = leads_then done.leads (another_round program c.args.run.now.frame l c.requires.waits.0
-            c.requires.waits.1
-            (subst (λ f. Passes (kept_by c.done_from.new.run.machine) (kept_by c.is_next_done.new.machine)
-            (λ n s. next_acts program n f l tt s) ended_so) done.frame c.if-not-is_next_done.ensures) c.in-Some.place
-            (subst (λ f. Passes (kept_by c.is_next_done.new.machine) (kept_by c.done_rounds.new.machine)
-            (λ n s. loop_acts program n f l tt s) (in_round program f l (Some c.in-Some.place))) done.frame
-            c.in-Some.ensures.passes) c.in-Some.ensures.less c.in-Some.ensures.taken);
-      },
-    )
+    let done = is_all c.in-Ok-None.field-0 c.in-Ok-None.field-0-is c.in-Ok-None.ensures in
+    IfOk-weaker c.rounds_by.result _ _ (λ step h. done.leads.leads _ _ _ _ ((another_round program
+    c.args.run.now.frame l c.requires.waits.0 c.requires.waits.1
+    (subst (λ f. Passes (kept_by c.done_from.new.run.machine) (kept_by c.is_next_done.new.machine)
+    (λ n s. next_acts program n f l tt s) ended_so) done.frame c.if-not-is_next_done.ensures) c.in-Some.place
+    (subst (λ f. Passes (kept_by c.is_next_done.new.machine) (kept_by c.done_rounds.new.machine)
+    (λ n s. loop_acts program n f l tt s) (in_round program f l (Some c.in-Some.place))) done.frame
+    c.in-Some.ensures.passes) c.in-Some.ensures.less c.in-Some.ensures.taken).leads _ _ _ _
+    (steps_there (λ f. left_at program f l.body.now (Some c.in-Some.place)) done.waiting done.frame h)))
+    c.rounds_by.ensures

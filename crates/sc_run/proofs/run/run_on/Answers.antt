@@ -33,13 +33,15 @@ loop-now-preserved c = record {
 
 pub loop-now-smaller : goal.loop-now-smaller
 loop-now-smaller c = less_after
-    (c.in-Ok-Go.ensures.falls c.loop-now.invariant.numbers.light c.loop-now.invariant.numbers.waiting) c.in-Ok-Go.field-0-is
+    (c.in-Ok-Go.ensures.falls c.loop-now.invariant.numbers.light c.loop-now.invariant.numbers.waiting)
+    c.in-Ok-Go.field-0-is
 
 pub loop-now-init : goal.loop-now-init
 loop-now-init c = record {
   since = λ whole h. subst
       (λ ws. Standing c.args.program.now whole (kept_by c.args.run.now.machine) ws c.args.run.now.frame
       (does_now c.args.program.now c.args.run.now.frame c.args.first)) (sym c.requires.nothing_waits) h;
-  numbers = subst (λ ws. NumbersLast (now_weight c.args.first) (kept_by c.args.run.now.machine) ws) (sym c.requires.nothing_waits)
+  numbers = subst (λ ws. NumbersLast (now_weight c.args.first) (kept_by c.args.run.now.machine) ws)
+      (sym c.requires.nothing_waits)
       c.requires.numbers;
 }

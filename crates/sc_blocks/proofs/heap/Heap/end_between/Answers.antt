@@ -1,6 +1,6 @@
 use Rattle.sc_blocks.proofs.Common.{Slot, List, arith, count_below, subst, sym, ◌∙◌, ◌≡◌, ◌≤◌}
 use Rattle.sc_blocks.proofs.Removing.{below_order, counted, left_without}
-use Rattle.sc_blocks.proofs.heap.Heap.end.Goals as goal
+use Rattle.sc_blocks.proofs.heap.Heap.end_between.Goals as goal
 
 pub returns : goal.returns
 returns c = λ from made up.
