@@ -1,4 +1,5 @@
-//! Rounds of loops whose bodies are a few assignments: plans of them are made once, and followed in each round.
+//! Rounds of loops by plans, which are made once and followed in each round: of the test, of what comes before the next
+//! round, and of a body that is a few assignments.
 
 ghost use Rattle.sc_run.specs.Assignments.{AreStmts, IsFound, IsNext, IsPart, IsStmt};
 ghost use Rattle.sc_run.specs.Prelude.{IsLess, Passes, PassesIf, assign, block_acts, c_arith, ended_so, here_of};
