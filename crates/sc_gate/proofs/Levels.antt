@@ -2,7 +2,8 @@
 use Rattle.sc_gate.specs.Waiting.{call_at}
 use Rattle.sc_image.specs.Prelude.{Crossing}
 use Rattle.std.proofs.lemmas.Bool.Decides.{nat_tests}
-use Rattle.std.proofs.Common.{Bool, arith, List, None, Option, Some, [], ap, false, if◌then◌else◌, length, map, nat_eq, refl, reverse}
+use Rattle.std.proofs.Common.{Bool, arith, List, None, Option, Some, [], ap}
+use Rattle.std.proofs.Common.{false, if◌then◌else◌, length, map, nat_eq, refl, reverse}
 use Rattle.std.proofs.Common.{suc, sym, true, zero, ℕ, ◌++◌, ◌∙◌, ◌∷◌, ◌≡◌}
 use Rattle.std.proofs.lemmas.List.{length-map, length-reverse, reverse-append, reverse-reverse}
 use Rattle.std.specs.List.{slice_get}

@@ -38,7 +38,8 @@ module _ (image : ImageParts) (inputs : List ℕ) (formed : IsWellFormed image) 
     jump_same : (rd target : ℕ) (x : Outcome) (x' : OutcomeOf Tagged) →
         (is_some (word_at image state.active target) ≡ false → StandsFor x x') →
         StandsFor (jump image state rd target x)
-        (jump_by core_of (is_some (tagged_word image [] tagged.core.active tagged.core.memory target)) tagged rd target x')
+        (jump_by core_of (is_some (tagged_word image [] tagged.core.active tagged.core.memory target))
+        tagged rd target x')
     jump_same rd target x x' elsewhere =
         subst (λ word. StandsFor (jump image state rd target x) (jump_by core_of (is_some word) tagged rd target x'))
         (sym (fetched_same image formed state.memory state.active target))

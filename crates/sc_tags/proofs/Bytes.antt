@@ -22,7 +22,8 @@ none_either false none is = refl
 module _ (image : ImageParts) (word : ℕ) (aligned : word % 4 ≡ 0) where
   pub code_low : word < 0x01000000 → is_some (word_at image (comp_of_code word) word) ≡ false
   unfolding word_at
-  code_low low = rw (eq-eqb (word % 4) 0 aligned, lt-leb (code_start (comp_of_code word)) word (omega (arith, low))) refl
+  code_low low =
+      rw (eq-eqb (word % 4) 0 aligned, lt-leb (code_start (comp_of_code word)) word (omega (arith, low))) refl
 
   pub code_nobody : slice_get image.comps (comp_of_code word) ≡ None →
       is_some (word_at image (comp_of_code word) word) ≡ false
@@ -83,7 +84,7 @@ module _ (tags : ℕ → ByteTag) (wanted : ByteTag) (a : ℕ) where
       ap (all_tagged tags wanted a) more ∙ rw (all, here) refl
 
 -- a compartment that is there has a small number
-pub few_there : (image : ImageParts) (c : ℕ) (comp : CompPart) → IsWellFormed image → slice_get image.comps c ≡ Some comp →
-    c < 32
+pub few_there : (image : ImageParts) (c : ℕ) (comp : CompPart) → IsWellFormed image →
+    slice_get image.comps c ≡ Some comp → c < 32
 few_there image c comp formed found = let within = slice_get_within image.comps c comp found in
     let few = formed.few_comps in omega (arith, within, few)

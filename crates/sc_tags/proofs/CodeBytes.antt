@@ -1,6 +1,7 @@
 -- The bytes of code at the start: zeros, and then the words of each compartment.
 use Rattle.sc_tags.proofs.Bytes.{code_low, code_nobody, code_there}
-use Rattle.sc_tags.proofs.Common.{All, Bool, ByteMemory, ImageParts, IsWellFormed, List, None, Option, Some, [], ap, arith}
+use Rattle.sc_tags.proofs.Common.{All, Bool, ByteMemory, ImageParts, IsWellFormed, List}
+use Rattle.sc_tags.proofs.Common.{None, Option, Some, [], ap, arith}
 use Rattle.sc_tags.proofs.Common.{cases_lt, code_byte, code_start, code_word, comp_of_code, eq-eqb, eqb-true, false}
 use Rattle.sc_tags.proofs.Common.{if◌then◌else◌}
 use Rattle.sc_tags.proofs.Common.{is_some, le-leb, le-ltb, length, lt-ltb, nat_eq, nat_le, nat_lt, nat_tests}
@@ -243,7 +244,8 @@ module _ (image : ImageParts) (formed : IsWellFormed image) where
       sym (rw (nobody a none) refl)
   blank_by a (Some comp) found = ⊎_elim
       (λ is. let h : IsOf (comp_of_code (place_of a)) a comp = record { low = is.0; high = is.1 } in
-      zero_in image.comps 0 (comp_of_code (place_of a)) (comp_of_code (place_of a)) a comp (omega arith) found h ∙ sym (rw (word_of_comp _ a comp found h) refl))
+      zero_in image.comps 0 (comp_of_code (place_of a)) (comp_of_code (place_of a)) a comp (omega arith) found h ∙
+      sym (rw (word_of_comp _ a comp found h) refl))
       (λ out. zero_out image.comps 0 a
       (λ i other at first. let h = from_zero i a other first in let number = whose i a other at h in
       let same : Some other ≡ Some comp = sym at ∙ ap (slice_get image.comps) (sym number) ∙ found in
@@ -323,8 +325,8 @@ module _ (image : ImageParts) (formed : IsWellFormed image) where
     more_at a = ⊎_elim (λ is. more_in a (record { low = is.0; high = is.1 })) (more_out a)
         (in_cases (code_region i comp) a)
 
-    pub so_far_more : ◌≡◌ {A = ByteMemory} (with_words (code_so_far image i) (code_start i) comp.code (length comp.code))
-        (code_so_far image (i + 1))
+    pub so_far_more : ◌≡◌ {A = ByteMemory}
+        (with_words (code_so_far image i) (code_start i) comp.code (length comp.code)) (code_so_far image (i + 1))
     so_far_more = λ j a. more_at a j
 
 -- an item of a list that is another's

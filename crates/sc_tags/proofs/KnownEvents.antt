@@ -1,6 +1,7 @@
 -- Each event of a run names compartments and exports of the image.
 use Rattle.sc_tags.proofs.Common.{All, AtNext, BadJump, Bool, Crossing, Goes, ImageParts, IsWellFormed, List}
-use Rattle.sc_tags.proofs.Common.{MachineState, NoImport, None, Option, Outcome, Some, Tagged, TrapReason, Traps, [], a7}
+use Rattle.sc_tags.proofs.Common.{MachineState, NoImport, None, Option, Outcome, Some}
+use Rattle.sc_tags.proofs.Common.{Tagged, TrapReason, Traps, [], a7}
 use Rattle.sc_tags.proofs.Common.{any_run_keeps, ap, by_tag, carried_called, comp_of_code, entered_export}
 use Rattle.sc_tags.proofs.Common.{environment_call, export_params, false, frees, has_heap, if◌then◌else◌}
 use Rattle.sc_tags.proofs.Common.{may_input, may_output, nat_eq, not, on_tag_call, on_tag_return, refl, reg}
@@ -65,7 +66,8 @@ module _ (image : ImageParts) where
   more : (trace : List Event) (event : Event) → All (IsKnown named) trace → IsKnown named event →
       All (IsKnown named) (trace ++ event ∷ [])
   more trace event all known =
-      All-append (IsKnown named) trace (event ∷ []) all (All-cons (IsKnown named) event [] known (All-nil (IsKnown named)))
+      All-append (IsKnown named) trace (event ∷ []) all
+      (All-cons (IsKnown named) event [] known (All-nil (IsKnown named)))
 
   module _ (tagged : Tagged) (h : KnowsAll tagged) where
     abbrev core : MachineState

@@ -2,7 +2,8 @@
 use Rattle.sc_tags.proofs.Bytes.{code_low, data_low}
 use Rattle.sc_tags.proofs.Common.{Bool, ByteMemory, Code, Goes, ImageParts, Jalr, List, MachineState, None, Option}
 use Rattle.sc_tags.proofs.Common.{Outcome, OutcomeOf, Some, TagRange, Tagged, TrapReason, Traps, all_tagged, ap, arith}
-use Rattle.sc_tags.proofs.Common.{by_tag, carried_called, comp_of_code, core_of, decoded, entered_export, environment_call}
+use Rattle.sc_tags.proofs.Common.{by_tag, carried_called, comp_of_code, core_of}
+use Rattle.sc_tags.proofs.Common.{decoded, entered_export, environment_call}
 use Rattle.sc_tags.proofs.Common.{eq-eqb, execute_by, false, gate, if◌then◌else◌, is_tag, jump_by, jump_outside}
 use Rattle.sc_tags.proofs.Common.{length, lifted, load_of, on_return, on_tag_return, refl, reg, step_by, sym, tag_at}
 use Rattle.sc_tags.proofs.Common.{tag_jumps, tag_step, tagged_word, true, with_outcome, ℕ, ◌%◌, ◌*◌, ◌/◌, ◌∙◌, ◌≡◌}
@@ -21,7 +22,8 @@ lift_outcome : {A : Type 0} (result : Result A TrapReason) (state : MachineState
 lift_outcome (Ok value) state outcome is = ap (lifted same_memory) is
 lift_outcome (Err reason) state outcome is = ap (lifted same_memory) is
 
-module _ {A : Type 0} (image : ImageParts) (state : MachineState) (result : Result A TrapReason) (left : MachineState) where
+module _ {A : Type 0} (image : ImageParts) (state : MachineState) (result : Result A TrapReason)
+    (left : MachineState) where
   -- calls of the environment, and jumps to what isn't the own compartment's
   pub environment_lifted : (inputs : List ℕ) → outcome_of result left ≡ environment_call image inputs state →
       tag_outcome result (with_levels left) ≡

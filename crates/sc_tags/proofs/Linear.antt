@@ -1,5 +1,6 @@
 -- Each step keeps one live capability at each level below the call level, and none at another.
-use Rattle.sc_tags.proofs.Common.{AtNext, Bool, Branch, ByteMemory, CapabilitiesAreLinear, Crossing, Ebreak, Ecall, Fence}
+use Rattle.sc_tags.proofs.Common.{AtNext, Bool, Branch, ByteMemory, CapabilitiesAreLinear}
+use Rattle.sc_tags.proofs.Common.{Crossing, Ebreak, Ecall, Fence}
 use Rattle.sc_tags.proofs.Common.{Goes, ImageParts, Instr, Jal, Jalr, List, Load, None, Op, OpImm}
 use Rattle.sc_tags.proofs.Common.{Option, Outcome, OutcomeOf, Protection, Shift, Some, Store, Tagged}
 use Rattle.sc_tags.proofs.Common.{TrapReason, Traps, Upper, any_run_keeps, arith, by_tag, carried_called}
@@ -126,6 +127,6 @@ module _ (image : ImageParts) (tagged : Tagged) (h : IsLinear tagged) where
 pub capabilities_linear : CapabilitiesAreLinear
 capabilities_linear image ranges inputs steps events =
     any_run_keeps (by_tag image ranges inputs) events IsLinear
-    (λ tagged h early. step_keeps (by_tag image ranges inputs) IsLinear tagged (λ regs pc memory. h) (jumps_keep image tagged h)
-    (leaves_keep image tagged h) (outcome_keeps image tagged h _))
+    (λ tagged h early. step_keeps (by_tag image ranges inputs) IsLinear tagged (λ regs pc memory. h)
+    (jumps_keep image tagged h) (leaves_keep image tagged h) (outcome_keeps image tagged h _))
     steps (tag_start image) (λ l. sym (le-ltb l 0 (omega arith)))

@@ -16,8 +16,8 @@ stays (Data c) = refl
 stays Unowned = refl
 
 -- code lies below all data
-pub code_below : (image : ImageParts) → IsWellFormed image → (c address word : ℕ) → word_at image c address ≡ Some word →
-    address < data_start 0
+pub code_below : (image : ImageParts) → IsWellFormed image → (c address word : ℕ) →
+    word_at image c address ≡ Some word → address < data_start 0
 unfolding word_at
 code_below image formed c address word at =
     let inside = if_some _ _ word at in

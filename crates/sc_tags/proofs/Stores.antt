@@ -1,5 +1,6 @@
 -- Loads and stores of a memory in two stores: the bytes of code in whole words, and those of data.
-use Rattle.sc_tags.proofs.Common.{Bool, ByteMemory, ImageParts, LoadOp, None, Option, Some, StoreOp, and_parts, ap, arith}
+use Rattle.sc_tags.proofs.Common.{Bool, ByteMemory, ImageParts, LoadOp, None, Option}
+use Rattle.sc_tags.proofs.Common.{Some, StoreOp, and_parts, ap, arith}
 use Rattle.sc_tags.proofs.Common.{code_byte, code_word, comp_of_code, false, if◌then◌else◌, is_some, leb-true, load_of}
 use Rattle.sc_tags.proofs.Common.{load_of-same, load_size, ltb-true, nat_le, nat_lt, refl, store_size, sym, true}
 use Rattle.sc_tags.proofs.Common.{IsWellFormed}
@@ -121,7 +122,8 @@ pub code_whole : (image : ImageParts) → AreWholeWords (code_byte image)
 code_whole image a =
     let same : a / 4 * 4 / 4 * 4 ≡ a / 4 * 4 = omega arith in
     mapped _ (code_word image a) ∙
-    sym (ap (λ word. is_some (word_at image (comp_of_code word) word)) same) ∙ sym (mapped _ (code_word image (a / 4 * 4)))
+    sym (ap (λ word. is_some (word_at image (comp_of_code word) word)) same) ∙
+    sym (mapped _ (code_word image (a / 4 * 4)))
 
 below_by : (image : ImageParts) → IsWellFormed image → (a : ℕ) → 0x10000000 ≤ a → (word : Option ℕ) →
     code_word image a ≡ word → is_some (code_byte image a) ≡ false

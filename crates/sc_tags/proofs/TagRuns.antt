@@ -1,5 +1,6 @@
 -- Runs of the machine with tags, step by step and call by call.
-use Rattle.sc_tags.proofs.Common.{Goes, ImageParts, List, None, RunOf, Some, Stop, TagRange, Tagged, TrapReason, Traps, [], ap}
+use Rattle.sc_tags.proofs.Common.{Goes, ImageParts, List, None, RunOf, Some, Stop}
+use Rattle.sc_tags.proofs.Common.{TagRange, Tagged, TrapReason, Traps, [], ap}
 use Rattle.sc_tags.proofs.Common.{by_tag, stopped, suc, sym, tag_machine, tag_run, tag_start, tag_step, ℕ, ◌∙◌, ◌∷◌}
 use Rattle.sc_tags.proofs.Common.{◌≡◌}
 use Rattle.sc_base.specs.declared.stop.Stop.TheVariants.{StepsOut, Trap}
@@ -47,11 +48,13 @@ module _ (image : ImageParts) (ranges : List TagRange) (inputs : List ℕ) (even
   later_calls : (n : ℕ) (more : List ℕ) (tagged : Tagged) → calls more (runs n tagged) ≡ runs (n + sum more) tagged
   later_calls n [] tagged = ap (λ k. runs k tagged) (sym (add-zero n))
   later_calls n (m ∷ more) tagged =
-      ap (calls more) (sym (more_run (by_tag image ranges inputs) events m n tagged)) ∙ later_calls (n + m) more tagged ∙
+      ap (calls more) (sym (more_run (by_tag image ranges inputs) events m n tagged)) ∙
+      later_calls (n + m) more tagged ∙
       ap (λ k. runs k tagged) (add_assoc n m _ ∙ ap (λ k. n + k) (sym (sum_by-cons _ m more)))
 
   pub called_again : (steps : ℕ) (old new : RunOf Tagged) → new ≡ continued (runs steps) old →
-      (earlier : List ℕ) → old ≡ calls earlier (tag_loaded image) → new ≡ calls (earlier ++ steps ∷ []) (tag_loaded image)
+      (earlier : List ℕ) → old ≡ calls earlier (tag_loaded image) →
+      new ≡ calls (earlier ++ steps ∷ []) (tag_loaded image)
   called_again steps old new is earlier made = is ∙ ap (continued (runs steps)) made ∙
       sym (fold-append _ (tag_loaded image) earlier (steps ∷ []))
 
@@ -67,6 +70,7 @@ module _ (image : ImageParts) (ranges : List TagRange) (inputs : List ℕ) (even
 
 -- The start, as it is loaded.
 pub start_tagged : (image : ImageParts) (hart : Hart) (memory : ByteMemory) →
-    state_in (start_memory image) hart ≡ start image → memory ≡ first_bytes image → tagged_in memory hart ≡ tag_start image
+    state_in (start_memory image) hart ≡ start image → memory ≡ first_bytes image →
+    tagged_in memory hart ≡ tag_start image
 start_tagged image hart memory is bytes =
     ap₂ (λ (state : MachineState) (m : ByteMemory). with_levels (record state { memory = m })) is bytes

@@ -1,7 +1,8 @@
 -- Bytes that no range has are tagged by their owner. A byte with a tag has an owner, and there is one at the start.
 use Rattle.sc_tags.proofs.Common.{All, Bool, ByteTag, Code, Data, ImageParts, IsWellFormed, List, None, Option, Some}
 use Rattle.sc_tags.proofs.Common.{TagRange, Unowned, [], all_tagged, and_parts, ap, ap₂, are_data, arith, code_word}
-use Rattle.sc_tags.proofs.Common.{code_byte, comp_of_code, comp_of_data, false, true≢false, ◌*◌, ◌/◌, is_some, is_tag, length, nat_eq, nat_lt, owner_of, refl, suc, sym}
+use Rattle.sc_tags.proofs.Common.{code_byte, comp_of_code, comp_of_data, false, true≢false, ◌*◌, ◌/◌, is_some}
+use Rattle.sc_tags.proofs.Common.{is_tag, length, nat_eq, nat_lt, owner_of, refl, suc, sym}
 use Rattle.sc_tags.proofs.Common.{tag_at, tag_by, true, word_at, zero, ℕ, if◌then◌else◌, ◌%◌, ◌&&◌, ◌+◌, ◌<◌, ◌∙◌}
 use Rattle.sc_tags.proofs.Common.{◌∷◌, ◌≡◌, data_bounds, ltb-true, cases_lt, ⊎_elim}
 use Rattle.sc_tags.proofs.Owners.{code_below, data_tagged, fetched_same}
@@ -128,7 +129,8 @@ module _ (image : ImageParts) (formed : IsWellFormed image) where
   tagged_low ranges wanted a zero owned some all = absurd (omega (arith, some))
   tagged_low ranges wanted a (suc size) owned some all =
       let parts = and_parts (all_tagged (tag_at image ranges) wanted a size) _ all in
-      let last : a + size + 4 < 2 ^ 32 = owner_low (a + size) (has_owner wanted (owner_of image (a + size)) _ owned parts.1) in
+      let last : a + size + 4 < 2 ^ 32 = owner_low (a + size)
+      (has_owner wanted (owner_of image (a + size)) _ owned parts.1) in
       omega (arith, last)
 
   pub tagged_there : (ranges : List TagRange) (wanted : ByteTag) (a size : ℕ) → is_owned wanted ≡ true →

@@ -4,7 +4,8 @@ use Rattle.sc_tags.specs.Common.{ByteMemory, byte_of}
 use Rattle.sc_image.specs.Prelude.{code_start, stretch}
 use Rattle.sc_image.specs.declared.parts.CompPart.{CompPart}
 use Rattle.sc_store.specs.declared.region.Region.{Region}
-use Rattle.std.specs.Prelude.{List, Some, [], if◌then◌else◌, length, nat_le, nat_lt, slice_index, suc, ℕ, ◌%◌, ◌&&◌, ◌*◌}
+use Rattle.std.specs.Prelude.{List, Some, [], if◌then◌else◌, length, nat_le, nat_lt}
+use Rattle.std.specs.Prelude.{slice_index, suc, ℕ, ◌%◌, ◌&&◌, ◌*◌}
 use Rattle.std.specs.Prelude.{◌+◌, ◌-◌, ◌/◌, ◌∷◌, ◌≤◌}
 
 -- the region of a compartment's code

@@ -13,7 +13,8 @@ use Rattle.std.specs.Option.{option_or}
 use Rattle.sc_image.specs.Prelude.{data_start, stack_size, zone_size, zone_start}
 use Rattle.sc_image.specs.declared.parts.CompPart.{CompPart}
 use Rattle.std.specs.Prelude.{length, nat_le, nat_lt, ◌||◌, ◌≤◌}
-use Rattle.std.specs.Prelude.{Bool, Err, List, Ok, Result, false, is_some, nat_eq, ℕ, ◌%◌, ◌+◌, ◌-◌, ◌<◌, ◌&&◌, ◌*◌, ◌/◌, ◌≡◌}
+use Rattle.std.specs.Prelude.{Bool, Err, List, Ok, Result, false, is_some, nat_eq, ℕ}
+use Rattle.std.specs.Prelude.{◌%◌, ◌+◌, ◌-◌, ◌<◌, ◌&&◌, ◌*◌, ◌/◌, ◌≡◌}
 
 -- the state with levels that a hart stands for, with this memory: the calls of its cross stack are the capabilities
 abbrev pub tagged_in : ByteMemory → Hart → Tagged

@@ -27,7 +27,8 @@ pub(crate) fn step<S: Store>(
     requires ready { IsReady (place_of tags.now) hart.old }
     requires owned { IsOwned tags.now.image (bytes_of S.bytes memory.old) }
     ensures outcome { tag_outcome result (tagged_in (bytes_of S.bytes memory.new) hart.new) ≡
-        tag_step tags.now.image tags.now.ranges (map word_of inputs.now) (tagged_in (bytes_of S.bytes memory.old) hart.old) }
+        tag_step tags.now.image tags.now.ranges (map word_of inputs.now)
+        (tagged_in (bytes_of S.bytes memory.old) hart.old) }
     ensures leaves { LeavesSound tags.now.image result hart.old hart.new }
     ensures memory { OnErr result (bytes_of S.bytes memory.new ≡ bytes_of S.bytes memory.old) }
     ensures owned { IsOwned tags.now.image (bytes_of S.bytes memory.new) }
@@ -52,8 +53,8 @@ fn execute<S: Store>(
     requires ready { IsReady (place_of tags.now) hart.old }
     requires owned { IsOwned tags.now.image (bytes_of S.bytes memory.old) }
     ensures outcome { tag_outcome result (tagged_in (bytes_of S.bytes memory.new) hart.new) ≡
-        execute_by (by_tag tags.now.image tags.now.ranges (map word_of inputs.now)) (tagged_in (bytes_of S.bytes memory.old) hart.old)
-        instr.now }
+        execute_by (by_tag tags.now.image tags.now.ranges (map word_of inputs.now))
+        (tagged_in (bytes_of S.bytes memory.old) hart.old) instr.now }
     ensures leaves { LeavesSound tags.now.image result hart.old hart.new }
     ensures memory { OnErr result (bytes_of S.bytes memory.new ≡ bytes_of S.bytes memory.old) }
     ensures owned { IsOwned tags.now.image (bytes_of S.bytes memory.new) }

@@ -195,7 +195,8 @@ impl<S: Store> TagMachine<S> {
 /// Takes at most `steps` steps.
 fn run<S: Store>(loaded: &Loaded, hart: &mut Hart, memory: &mut Memory<S>, steps: u32) -> Stop
     requires ready { CanRunTagged loaded.now.program loaded.now.events hart.old (bytes_of S.bytes memory.old) }
-    ensures run { ◌≡◌ {A = RunOf Tagged} (record { state = tagged_in (bytes_of S.bytes memory.new) hart.new; stop = result })
+    ensures run { ◌≡◌ {A = RunOf Tagged}
+        (record { state = tagged_in (bytes_of S.bytes memory.new) hart.new; stop = result })
         (tag_run loaded.now.program loaded.now.ranges (map word_of loaded.now.inputs) loaded.now.events steps
         (tagged_in (bytes_of S.bytes memory.old) hart.old)) }
     ensures ready { CanRunTagged loaded.now.program loaded.now.events hart.new (bytes_of S.bytes memory.new) }

@@ -10,7 +10,8 @@ returns-then-not-are_code-clause-outcome g c =
     let memory = bytes_of g.S.Store.bytes c.args.memory.now in
     sym (step_nowhere c.args.tags.now.image c.args.tags.now.ranges (map word_of c.args.inputs.now)
     (tagged_in memory c.args.hart.now)
-    (fetched_none c.args.tags.now _ _ memory c.requires.ready.here (sym c.are_code.ensures.is ∙ c.if-not-are_code.true)))
+    (fetched_none c.args.tags.now _ _ memory c.requires.ready.here
+    (sym c.are_code.ensures.is ∙ c.if-not-are_code.true)))
 
 pub returns-in_default-clause-outcome : goal.returns-in_default-clause-outcome
 returns-in_default-clause-outcome g c =
@@ -18,7 +19,8 @@ returns-in_default-clause-outcome g c =
     sym (step_illegal c.args.tags.now.image c.args.tags.now.ranges (map word_of c.args.inputs.now)
     (tagged_in memory c.args.hart.now) c.loaded.result
     (rw c.loaded.ensures
-    (fetched_some c.args.tags.now _ _ memory c.requires.ready.here (sym c.are_code.ensures.is ∙ c.if-not-are_code.false)))
+    (fetched_some c.args.tags.now _ _ memory c.requires.ready.here
+    (sym c.are_code.ensures.is ∙ c.if-not-are_code.false)))
     (sym c.in_default.ensures.same))
 
 pub returns-clause-outcome : goal.returns-clause-outcome
@@ -28,5 +30,6 @@ returns-clause-outcome g c =
     sym (step_executes c.args.tags.now.image c.args.tags.now.ranges (map word_of c.args.inputs.now)
     (tagged_in memory c.args.hart.now) c.loaded.result c.in-Some.instr
     (rw c.loaded.ensures
-    (fetched_some c.args.tags.now _ _ memory c.requires.ready.here (sym c.are_code.ensures.is ∙ c.if-not-are_code.false)))
+    (fetched_some c.args.tags.now _ _ memory c.requires.ready.here
+    (sym c.are_code.ensures.is ∙ c.if-not-are_code.false)))
     (sym c.in-Some.ensures.same))

@@ -9,7 +9,8 @@ pub put_words-requires-clause-below : goal.put_words-requires-clause-below
 put_words-requires-clause-below g c =
     let comp = c.index-comps-number.result in
     let found = comp_there _ c.args.image.now.comps c.loop-number.number comp
-    (c.as_slice-comps.ensures ∙ ap (λ p. p.comps) c.parts.ensures.parts) c.loop-number-test.true c.index-comps-number.is in
+    (c.as_slice-comps.ensures ∙ ap (λ p. p.comps) c.parts.ensures.parts)
+    c.loop-number-test.true c.index-comps-number.is in
     let short = (c.parts.ensures.well_formed.comps _ comp found).short_code in
     rw (c.code_start.ensures, c.comp_id.ensures, c.as_slice.ensures) (omega (arith, short))
 
@@ -17,7 +18,8 @@ pub put_words-requires-clause-there : goal.put_words-requires-clause-there
 put_words-requires-clause-there g c =
     let comp = c.index-comps-number.result in
     let found = comp_there _ c.args.image.now.comps c.loop-number.number comp
-    (c.as_slice-comps.ensures ∙ ap (λ p. p.comps) c.parts.ensures.parts) c.loop-number-test.true c.index-comps-number.is in
+    (c.as_slice-comps.ensures ∙ ap (λ p. p.comps) c.parts.ensures.parts)
+    c.loop-number-test.true c.index-comps-number.is in
     rw (c.loop-number.invariant, c.code_start.ensures, c.comp_id.ensures, c.as_slice.ensures)
     (so_far_has c.args.image.now c.parts.ensures.well_formed c.loop-number.number comp found)
 
@@ -25,7 +27,8 @@ pub loop-number-preserved : goal.loop-number-preserved
 loop-number-preserved g c =
     let comp = c.index-comps-number.result in
     let found = comp_there _ c.args.image.now.comps c.loop-number.number comp
-    (c.as_slice-comps.ensures ∙ ap (λ p. p.comps) c.parts.ensures.parts) c.loop-number-test.true c.index-comps-number.is in
+    (c.as_slice-comps.ensures ∙ ap (λ p. p.comps) c.parts.ensures.parts)
+    c.loop-number-test.true c.index-comps-number.is in
     c.put_words.ensures ∙
     rw (c.loop-number.invariant, c.code_start.ensures, c.comp_id.ensures, c.as_slice.ensures)
     (so_far_more c.args.image.now c.parts.ensures.well_formed c.loop-number.number comp found)

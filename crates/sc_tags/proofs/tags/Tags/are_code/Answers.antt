@@ -25,11 +25,13 @@ pub returns-clause-there : goal.returns-clause-there
 returns-clause-there c sure =
     let place = subst (λ (s : TagSite). IsPlace s.image s.comp) c.self.view_is c.self.invariant.1 in
     subst (λ image. HasBytes (first_bytes image) c.args.address 4) c.image.ensures
-    (code_tagged c.image.result.now (subst IsWellFormed (sym c.image.ensures) place.formed) c.self.inside.ranges.now c.comp.result c.args.address
+    (code_tagged c.image.result.now (subst IsWellFormed (sym c.image.ensures) place.formed)
+    c.self.inside.ranges.now c.comp.result c.args.address
     (sym c.all_tagged.ensures ∙ sure)).0
 
 pub returns-clause-within : goal.returns-clause-within
 returns-clause-within c sure =
     let place = subst (λ (s : TagSite). IsPlace s.image s.comp) c.self.view_is c.self.invariant.1 in
-    (code_tagged c.image.result.now (subst IsWellFormed (sym c.image.ensures) place.formed) c.self.inside.ranges.now c.comp.result c.args.address
+    (code_tagged c.image.result.now (subst IsWellFormed (sym c.image.ensures) place.formed)
+    c.self.inside.ranges.now c.comp.result c.args.address
     (sym c.all_tagged.ensures ∙ sure)).1

@@ -21,5 +21,6 @@ pub returns-clause-there : goal.returns-clause-there
 returns-clause-there c sure =
     let place = subst (λ (s : TagSite). IsPlace s.image s.comp) c.self.view_is c.self.invariant.1 in
     subst (λ image. HasBytes (first_bytes image) c.args.address c.args.size) c.image.ensures
-    (data_tagged_there c.image.result.now (subst IsWellFormed (sym c.image.ensures) place.formed) c.self.inside.ranges.now c.comp.result c.args.address
+    (data_tagged_there c.image.result.now (subst IsWellFormed (sym c.image.ensures) place.formed)
+    c.self.inside.ranges.now c.comp.result c.args.address
     c.args.size (sym c.all_tagged.ensures ∙ sure))
