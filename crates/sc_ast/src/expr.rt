@@ -54,10 +54,7 @@ impl ExprTree {
     pub fn size_of(alloc: Global, base: BaseTree, stars: u64) -> Result<ExprTree, AllocError>
         ensures { IfOk result (λ size. size ≡ SizeOf (record { base = base; stars = stars })) }
     {
-        Ok(ExprTree::SizeOf(Boxed::new(
-            alloc,
-            TypeName { base, stars },
-        )?))
+        Ok(ExprTree::SizeOf(Boxed::new(alloc, TypeName { base, stars })?))
     }
 }
 

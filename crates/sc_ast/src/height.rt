@@ -58,7 +58,9 @@ fn kind_height(kind: &StmtKind) -> u32
 {
     match kind {
         StmtKind::Assign { place, value } => expr_height(place.get()).max(expr_height(value.get())),
-        StmtKind::AssignCall { place, call } => expr_height(place.get()).max(call_height(call.get())),
+        StmtKind::AssignCall { place, call } => expr_height(place.get()).max(call_height(
+            call.get(),
+        )),
         StmtKind::Call(call) => call_height(call.get()),
         StmtKind::Malloc { place, count, .. } => expr_height(place.get()).max(count_height(count)),
         StmtKind::Free(pointer) => expr_height(pointer.get()),
@@ -146,8 +148,12 @@ fn simple_kind_height(kind: &SimpleKind) -> u32
     ensures { result ≡ limited (simple_kind_height kind.now) }
 {
     match kind {
-        SimpleKind::Assign { place, value } => expr_height(place.get()).max(expr_height(value.get())),
-        SimpleKind::AssignCall { place, call } => expr_height(place.get()).max(call_height(call.get())),
+        SimpleKind::Assign { place, value } => expr_height(place.get()).max(expr_height(
+            value.get(),
+        )),
+        SimpleKind::AssignCall { place, call } => expr_height(place.get()).max(call_height(
+            call.get(),
+        )),
         SimpleKind::Call(call) => call_height(call.get()),
         SimpleKind::Malloc { place, count, .. } => {
             expr_height(place.get()).max(count_height(count))

@@ -95,8 +95,20 @@ fn lower_simple(
     ensures few { IfOk result (λ fragment. fragment.next ≤ free + simple_nodes kind.now) }
 {
     match kind {
-        TypedSimpleKind::Assign { place, value } => lower_assign(alloc, scope, place, value.get(), free),
-        TypedSimpleKind::AssignCall { place, call } => store_call(alloc, scope, place, call.get(), free),
+        TypedSimpleKind::Assign { place, value } => lower_assign(
+            alloc,
+            scope,
+            place,
+            value.get(),
+            free,
+        ),
+        TypedSimpleKind::AssignCall { place, call } => store_call(
+            alloc,
+            scope,
+            place,
+            call.get(),
+            free,
+        ),
         TypedSimpleKind::Call(call) => lower_call(alloc, scope, call.get(), free),
         TypedSimpleKind::Malloc {
             place,
@@ -208,8 +220,20 @@ fn lower_stmt(
 {
     match &stmt.kind {
         TypedStmtKind::Empty => Ok(nothing(alloc, free)),
-        TypedStmtKind::Assign { place, value } => lower_assign(alloc, scope, place, value.get(), free),
-        TypedStmtKind::AssignCall { place, call } => store_call(alloc, scope, place, call.get(), free),
+        TypedStmtKind::Assign { place, value } => lower_assign(
+            alloc,
+            scope,
+            place,
+            value.get(),
+            free,
+        ),
+        TypedStmtKind::AssignCall { place, call } => store_call(
+            alloc,
+            scope,
+            place,
+            call.get(),
+            free,
+        ),
         TypedStmtKind::Call(call) => lower_call(alloc, scope, call.get(), free),
         TypedStmtKind::Malloc {
             place,

@@ -123,7 +123,10 @@ fn kind_nodes(kind: &StmtKind) -> u32
     ensures { result ≡ limited (kind_nodes kind.now) }
 {
     match kind {
-        StmtKind::Assign { place, value } => over(both(expr_nodes(place.get()), expr_nodes(value.get()))),
+        StmtKind::Assign { place, value } => over(both(
+            expr_nodes(place.get()),
+            expr_nodes(value.get()),
+        )),
         StmtKind::AssignCall { place, call } => {
             over(both(expr_nodes(place.get()), call_nodes(call.get())))
         }
@@ -150,7 +153,10 @@ fn kind_nodes(kind: &StmtKind) -> u32
             next,
             body,
         } => {
-            let head = both(both(part_nodes(first), expr_nodes(cond.get())), part_nodes(next));
+            let head = both(
+                both(part_nodes(first), expr_nodes(cond.get())),
+                part_nodes(next),
+            );
             over(both(head, stmts_nodes(body)))
         }
         StmtKind::ReturnValue(value) => over(expr_nodes(value.get())),

@@ -58,12 +58,16 @@ pub fn build_expr(
         }
         ExprTree::Member { base, name } => {
             let base = build_expr(alloc, section, function, base.get())?;
-            let member = section.structs.member(Some(base.expr.ty), &name.get().name());
+            let member = section
+                .structs
+                .member(Some(base.expr.ty), &name.get().name());
             member_built(alloc, base, member)
         }
         ExprTree::Arrow { base, name } => {
             let base = build_expr(alloc, section, function, base.get())?;
-            let member = section.structs.member(base.expr.ty.pointed(), &name.get().name());
+            let member = section
+                .structs
+                .member(base.expr.ty.pointed(), &name.get().name());
             arrow_built(alloc, base, member)
         }
         ExprTree::Deref(of) => {

@@ -117,7 +117,10 @@ impl Place<'_> {
                 Ok(())
             }
             StmtKind::AssignCall { place, call } => {
-                lines.unless(self.assign_call_holds(alloc, place.get(), call.get())?, line);
+                lines.unless(
+                    self.assign_call_holds(alloc, place.get(), call.get())?,
+                    line,
+                );
                 Ok(())
             }
             StmtKind::Call(call) => {
@@ -125,7 +128,10 @@ impl Place<'_> {
                 Ok(())
             }
             StmtKind::Malloc { place, count, of } => {
-                lines.unless(self.malloc_holds(alloc, place.get(), count, of.get())?, line);
+                lines.unless(
+                    self.malloc_holds(alloc, place.get(), count, of.get())?,
+                    line,
+                );
                 Ok(())
             }
             StmtKind::Free(pointer) => {

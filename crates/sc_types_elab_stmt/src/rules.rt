@@ -252,7 +252,11 @@ impl Place<'_> {
             (called self.now.section.now.callees) scope self.now.function.now.result simple.now) }
     {
         match simple {
-            SimpleKind::Assign { place, value } => self.assign_holds(alloc, place.get(), value.get()),
+            SimpleKind::Assign { place, value } => self.assign_holds(
+                alloc,
+                place.get(),
+                value.get(),
+            ),
             SimpleKind::AssignCall { place, call } => {
                 self.assign_call_holds(alloc, place.get(), call.get())
             }

@@ -493,7 +493,13 @@ fn build_kind(
 {
     match kind {
         StmtKind::Empty => Ok(TypedStmtKind::Empty),
-        StmtKind::Assign { place, value } => assign_kind(alloc, section, function, place, value.get()),
+        StmtKind::Assign { place, value } => assign_kind(
+            alloc,
+            section,
+            function,
+            place,
+            value.get(),
+        ),
         StmtKind::AssignCall { place, call } => {
             assign_call_kind(alloc, section, function, place, call.get())
         }

@@ -330,7 +330,12 @@ impl<'a> Run<'a> {
         };
         let line = simple.line;
         match &simple.kind {
-            TypedSimpleKind::Assign { place, value } => self.assign(frame, line, place, value.get())?,
+            TypedSimpleKind::Assign { place, value } => self.assign(
+                frame,
+                line,
+                place,
+                value.get(),
+            )?,
             TypedSimpleKind::AssignCall { place, call } => {
                 self.assign_call(below, frame, line, place, call.get())?;
             }

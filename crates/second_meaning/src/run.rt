@@ -234,7 +234,12 @@ impl<'a> Run<'a> {
     }
 
     // How many elements are allocated: one where no count stands.
-    fn count(&mut self, frame: &Frame, line: u32, count: &Option<Boxed<TypedExpr>>) -> Result<u32, Halt> {
+    fn count(
+        &mut self,
+        frame: &Frame,
+        line: u32,
+        count: &Option<Boxed<TypedExpr>>,
+    ) -> Result<u32, Halt> {
         let Some(count) = count else {
             return Ok(1);
         };

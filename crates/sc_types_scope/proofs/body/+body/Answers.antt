@@ -22,20 +22,20 @@ stmt_lines-returns-in-Return t c = return-noted _ _ c.args.stmt.now _ c.in-Retur
 pub stmt_lines-returns-in-If : goal.stmt_lines-returns-in-If
 stmt_lines-returns-in-If t c =
     let knows_cond = c.knows-in-If.ensures ∙ ap (knows c.args.names.now.structs
-        (c.args.names.now.globals ++ c.args.own.now)) c.get-in-If.ensures in
+    (c.args.names.now.globals ++ c.args.own.now)) c.get-in-If.ensures in
     if-noted _ _ c.args.stmt.now _ _ _ _ _ _ _ _ c.in-If.is knows_cond c.unless-in-If.ensures c.all_lines.ensures
-      c.all_lines-in-If.ensures
+    c.all_lines-in-If.ensures
 
 pub stmt_lines-returns-in-While : goal.stmt_lines-returns-in-While
 stmt_lines-returns-in-While t c =
     let knows_cond = c.knows-in-While.ensures ∙ ap (knows c.args.names.now.structs
-        (c.args.names.now.globals ++ c.args.own.now)) c.get-in-While.ensures in
+    (c.args.names.now.globals ++ c.args.own.now)) c.get-in-While.ensures in
     while-noted _ _ c.args.stmt.now _ _ _ _ _ _ c.in-While.is knows_cond c.unless-in-While.ensures
-      c.all_lines-in-While.ensures
+    c.all_lines-in-While.ensures
 
 pub stmt_lines-returns-in-For : goal.stmt_lines-returns-in-For
 stmt_lines-returns-in-For t c =
     let knows_cond = c.knows-in-For.ensures ∙ ap (knows c.args.names.now.structs
-        (c.args.names.now.globals ++ c.args.own.now)) c.get-in-For.ensures in
+    (c.args.names.now.globals ++ c.args.own.now)) c.get-in-For.ensures in
     for-noted _ _ c.args.stmt.now _ _ _ _ _ _ _ _ _ _ c.in-For.is knows_cond c.part_lines.ensures
-      c.unless-in-For.ensures c.part_lines-in-For.ensures c.all_lines-in-For.ensures
+    c.unless-in-For.ensures c.part_lines-in-For.ensures c.all_lines-in-For.ensures

@@ -8,8 +8,8 @@ use Rattle.sc_types_elab_stmt.proofs.rules.Place.+body.Goals as goal
 pub note_kind-returns-in_ok-note_stmts-in-If : goal.note_kind-returns-in_ok-note_stmts-in-If
 note_kind-returns-in_ok-note_stmts-in-If t c scope suits =
     let holds = c.in_ok-cond_holds-in-If.ensures scope suits ∙ ap (cond_holds
-        (visible c.args.self.now.section.now c.args.self.now.function.now) (called c.args.self.now.section.now.callees)
-        scope c.args.self.now.function.now.result) c.get.ensures in
+    (visible c.args.self.now.section.now c.args.self.now.function.now) (called c.args.self.now.section.now.callees)
+    scope c.args.self.now.function.now.result) c.get.ensures in
     on_ok c.note_stmts-in-If.result (noted-if (visible c.args.self.now.section.now c.args.self.now.function.now)
     (called c.args.self.now.section.now.callees) scope c.args.self.now.function.now.result c.args.kind.now
     c.args.line c.args.lines.now _ _ _ _ _ _ _ c.in-If.is
@@ -19,8 +19,8 @@ note_kind-returns-in_ok-note_stmts-in-If t c scope suits =
 pub note_kind-returns-in_ok-cond_holds-in-While : goal.note_kind-returns-in_ok-cond_holds-in-While
 note_kind-returns-in_ok-cond_holds-in-While t c scope suits =
     let holds = c.in_ok-cond_holds-in-While.ensures scope suits ∙ ap (cond_holds
-        (visible c.args.self.now.section.now c.args.self.now.function.now) (called c.args.self.now.section.now.callees)
-        scope c.args.self.now.function.now.result) c.get-in-While.ensures in
+    (visible c.args.self.now.section.now c.args.self.now.function.now) (called c.args.self.now.section.now.callees)
+    scope c.args.self.now.function.now.result) c.get-in-While.ensures in
     on_ok c.note_stmts-in-While.result (noted-while (visible c.args.self.now.section.now c.args.self.now.function.now)
     (called c.args.self.now.section.now.callees) scope c.args.self.now.function.now.result c.args.kind.now
     c.args.line c.args.lines.now _ _ _ _ _ c.in-While.is
@@ -30,8 +30,8 @@ note_kind-returns-in_ok-cond_holds-in-While t c scope suits =
 pub note_kind-returns-in_ok-note_part-in-For-2 : goal.note_kind-returns-in_ok-note_part-in-For-2
 note_kind-returns-in_ok-note_part-in-For-2 t c scope suits =
     let holds = c.in_ok-cond_holds-in-For.ensures scope suits ∙ ap (cond_holds
-        (visible c.args.self.now.section.now c.args.self.now.function.now) (called c.args.self.now.section.now.callees)
-        scope c.args.self.now.function.now.result) c.get-in-For.ensures in
+    (visible c.args.self.now.section.now c.args.self.now.function.now) (called c.args.self.now.section.now.callees)
+    scope c.args.self.now.function.now.result) c.get-in-For.ensures in
     on_ok c.note_stmts-in-For.result (noted-for (visible c.args.self.now.section.now c.args.self.now.function.now)
     (called c.args.self.now.section.now.callees) scope c.args.self.now.function.now.result c.args.kind.now
     c.args.line c.args.lines.now _ _ _ _ _ _ _ _ _ c.in-For.is (c.in_ok-note_part-in-For.ensures scope suits)
