@@ -5,4 +5,6 @@ mod heaps;
 mod hostile;
 mod images;
 mod machines;
+mod plain;
+mod tagged;
 mod tags;

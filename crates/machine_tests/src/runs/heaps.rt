@@ -1,7 +1,8 @@
 // Images in version 2, and compartments with a heap.
 use crate::runs::images::cause;
-use crate::runs::machines::{append_part, loaded, trap};
-use sc_base::Stop::Ended;
+use crate::runs::machines::{append_part, trap};
+use crate::runs::plain::Plain;
+use sc_base::Stop::{self, Ended};
 use sc_base::{OutOfMemory, Text, TrapReason};
 use sc_event::{CompId, Event};
 use sc_image::{read_image, write_image};
@@ -49,61 +50,95 @@ fn cause_of_change(place: usize) -> u8 {
     }
 }
 
+// A version, flags, and why they make no image, or 0.
+const VERSIONS: [(u8, u8, u8); 8] = [
+    (0, 2, 2),
+    (1, 3, 0),
+    (1, 4, 5),
+    (1, 6, 5),
+    (2, 0, 0),
+    (2, 7, 0),
+    (2, 8, 5),
+    (3, 2, 2),
+];
+
+fn cause_of_version(alloc: Global, version: u8, flags: u8) -> Result<u8, OutOfMemory> {
+    let bytes = image(alloc, version, flags, &TAKES)?;
+    Ok(cause(alloc, bytes.as_bytes()))
+}
+
 #[test]
 fn knows_two_versions(rt: HostRuntime) -> Result<(), OutOfMemory> {
-    for (version, flags, want) in [
-        (0, 2, 2),
-        (1, 3, 0),
-        (1, 4, 5),
-        (1, 6, 5),
-        (2, 0, 0),
-        (2, 7, 0),
-        (2, 8, 5),
-        (3, 2, 2),
-    ] {
-        let bytes = image(rt.alloc(), version, flags, &TAKES)?;
-        assert_eq!(rt; cause(rt.alloc(), bytes.as_bytes()), want);
+    for (version, flags, want) in VERSIONS {
+        assert!(rt; cause_of_version(rt.alloc(), version, flags)? == want);
     }
     Ok(())
 }
 
+// Whether each prefix of `TAKES`' image, which has 59 bytes, is none for the cause that it should be.
+fn are_causes_of_cuts(alloc: Global) -> Result<bool, OutOfMemory> {
+    let text = image(alloc, 2, 6, &TAKES)?;
+    let bytes = text.as_bytes();
+    let right = (0..59).all(|length| match bytes.get(..length) {
+        Some(part) => cause(alloc, part) == cause_of_cut(length),
+        None => false,
+    });
+    Ok(right && bytes.len() == 59 && cause(alloc, bytes) == 0)
+}
+
 #[test]
-fn gives_the_cause_of_each_cut(rt: HostRuntime) -> Result<(), Fail> {
-    let bytes = image(rt.alloc(), 2, 6, &TAKES)?;
-    assert_eq!(rt; bytes.as_bytes().len(), 59);
-    for length in 0..59 {
-        let part = bytes.as_bytes().get(..length).ok_or("59 bytes")?;
-        assert_eq!(rt; cause(rt.alloc(), part), cause_of_cut(length));
-    }
-    assert_eq!(rt; cause(rt.alloc(), bytes.as_bytes()), 0);
+fn gives_the_cause_of_each_cut(rt: HostRuntime) -> Result<(), OutOfMemory> {
+    assert!(rt; are_causes_of_cuts(rt.alloc())?);
     Ok(())
+}
+
+// The cause with 255 in the place of a byte.
+fn cause_with(alloc: Global, place: usize) -> Result<u8, Fail> {
+    let bytes = image(alloc, 2, 6, &TAKES)?;
+    let mut changed = bytes.as_bytes().to_vec(alloc)?;
+    *changed.get_mut(place).ok_or("59 bytes")? = 0xff;
+    Ok(cause(alloc, &changed))
 }
 
 #[test]
 fn gives_the_cause_of_each_change(rt: HostRuntime) -> Result<(), Fail> {
-    let bytes = image(rt.alloc(), 2, 6, &TAKES)?;
     for place in 0..59 {
-        let mut changed = bytes.as_bytes().to_vec(rt.alloc())?;
-        *changed.get_mut(place).ok_or("59 bytes")? = 0xff;
-        assert_eq!(rt; cause(rt.alloc(), &changed), cause_of_change(place));
+        assert!(rt; cause_with(rt.alloc(), place)? == cause_of_change(place));
     }
     Ok(())
+}
+
+// Whether an image in this version is written in version 2.
+fn is_written(alloc: Global, version: u8, flags: u8) -> Result<bool, Fail> {
+    let bytes = image(alloc, version, flags, &TAKES)?;
+    let read = read_image(alloc, bytes.as_bytes())?;
+    let text = write_image(alloc, &read)?;
+    let want = image(alloc, 2, flags, &TAKES)?;
+    Ok(text.as_bytes() == want.as_bytes())
 }
 
 #[test]
 fn writes_version_two(rt: HostRuntime) -> Result<(), Fail> {
     for (version, flags) in [(1, 2), (2, 2), (2, 6)] {
-        let bytes = image(rt.alloc(), version, flags, &TAKES)?;
-        let read = read_image(rt.alloc(), bytes.as_bytes())?;
-        let text = write_image(rt.alloc(), &read)?;
-        let want = image(rt.alloc(), 2, flags, &TAKES)?;
-        assert!(rt; text.as_bytes() == want.as_bytes());
+        assert!(rt; is_written(rt.alloc(), version, flags)?);
     }
     Ok(())
 }
 
-#[test]
-fn takes_and_gives_back_words(rt: HostRuntime) -> Result<(), Fail> {
+// Why an image with these flags and this code stops, and how many events it emitted.
+fn runs_to(alloc: Global, flags: u8, code: &[u32]) -> Result<(Stop, usize), Fail> {
+    let bytes = image(alloc, 2, flags, code)?;
+    let mut machine = Plain::load(alloc, read_image(alloc, bytes.as_bytes())?, &[], 9)?;
+    let stop = machine.run(99);
+    if begins_as_it_should(&machine) {
+        Ok((stop, machine.trace().len()))
+    } else {
+        Err("other events")?
+    }
+}
+
+// Whether the events are the first of those of `TAKES`.
+fn begins_as_it_should(machine: &Plain) -> bool {
     let comp = CompId::first();
     let all = [
         Event::Out {
@@ -112,18 +147,14 @@ fn takes_and_gives_back_words(rt: HostRuntime) -> Result<(), Fail> {
         },
         Event::End { comp, value: 0 },
     ];
-    let (takes, gives_back): (&[u32], &[u32]) = (&TAKES, &GIVES_BACK);
-    for (flags, code, events, stop) in [
-        (6, takes, 2, Ended),
-        (2, takes, 0, trap(TrapReason::BadCall, 12)),
-        (6, gives_back, 0, trap(TrapReason::BadFree, 8)),
-    ] {
-        let bytes = image(rt.alloc(), 2, flags, code)?;
-        let image = read_image(rt.alloc(), bytes.as_bytes())?;
-        let mut machine = loaded(rt.alloc(), image, &[], 9)?;
-        assert_eq!(rt; machine.run(99), stop);
-        assert_eq!(rt; machine.trace().len(), events);
-        assert!(rt; all.starts_with(machine.trace()));
-    }
+    all.starts_with(machine.trace())
+}
+
+#[test]
+fn takes_and_gives_back_words(rt: HostRuntime) -> Result<(), Fail> {
+    let alloc = rt.alloc();
+    assert!(rt; runs_to(alloc, 6, &TAKES)? == (Ended, 2));
+    assert!(rt; runs_to(alloc, 2, &TAKES)? == (trap(TrapReason::BadCall, 12), 0));
+    assert!(rt; runs_to(alloc, 6, &GIVES_BACK)? == (trap(TrapReason::BadFree, 8), 0));
     Ok(())
 }

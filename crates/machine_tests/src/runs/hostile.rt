@@ -1,12 +1,11 @@
 ghost use Rattle.std.specs.Prelude.{◌<◌};
 
-use super::machines::{self, Part, STACK_TOP, START, image, second};
-use super::tags::loaded;
+use super::machines::{Part, STACK_TOP, START, image, second};
+use super::plain::Plain;
+use super::tagged::Tagged;
 use sc_base::{Stop, TrapReason};
 use sc_event::{CompId, Event};
 use sc_image::Image;
-use sc_machine::Machine;
-use sc_store::FlatStore;
 use sc_tags::{ByteTag, TagRange};
 use std::alloc::Global;
 use std::test::Fail;
@@ -118,55 +117,106 @@ fn tag_at(ranges: &[TagRange], at: u32) -> ByteTag {
     tag
 }
 
-// Without ranges both machines make the same run.
+fn plain(alloc: Global, seed: u64) -> Result<Plain, Fail> {
+    Ok(Plain::load(alloc, hostile(alloc, seed)?, &[], 10)?)
+}
+
+fn tagged(alloc: Global, seed: u64, ranges: &[TagRange]) -> Result<Tagged, Fail> {
+    Ok(Tagged::load(alloc, hostile(alloc, seed)?, ranges)?)
+}
+
+// Whether both machines make the same run without ranges, and whether it begins with a call.
+fn run_alike(alloc: Global, seed: u64) -> Result<(bool, bool), Fail> {
+    let mut plain = plain(alloc, seed)?;
+    let mut tagged = tagged(alloc, seed, &[])?;
+    let same = tagged.run(200) == plain.run(200) && tagged.trace() == plain.trace();
+    Ok((same, begins_with_a_call(&plain)))
+}
+
+fn begins_with_a_call(machine: &Plain) -> bool {
+    matches!(machine.trace().first(), Some(Event::Call { .. }))
+}
+
 #[test]
 fn runs_alike_without_ranges(rt: HostRuntime) -> Result<(), Fail> {
     let mut called = false;
     for seed in 0..500 {
-        let mut plain = machines::loaded(rt.alloc(), hostile(rt.alloc(), seed)?, &[], 10)?;
-        let mut tagged = loaded(rt.alloc(), hostile(rt.alloc(), seed)?, &[])?;
-        assert_eq!(rt; tagged.run(200), plain.run(200));
-        assert!(rt; tagged.trace() == plain.trace());
-        called = called || matches!(plain.trace().first(), Some(Event::Call { .. }));
+        let (alike, calls) = run_alike(rt.alloc(), seed)?;
+        assert!(rt; alike);
+        called = called || calls;
     }
     assert!(rt; called);
     Ok(())
 }
 
-// A range does what its two parts do, and the tags are those of a second evaluation.
+// The first half of a range, and the rest.
+fn first_half(range: TagRange) -> TagRange {
+    TagRange {
+        bytes: range.bytes / 2,
+        ..range
+    }
+}
+
+fn last_half(range: TagRange) -> TagRange {
+    let begin = range.bytes / 2;
+    TagRange {
+        start: range.start.wrapping_add(begin),
+        bytes: range.bytes - begin,
+        tag: range.tag,
+    }
+}
+
+// Two ranges from a seed.
+fn ranges(seed: u64) -> [TagRange; 2] {
+    let mut words = Words { state: !seed };
+    [words.range(), words.range()]
+}
+
+// The same with the second in two parts, the later one first.
+fn ranges_in_parts(seed: u64) -> [TagRange; 3] {
+    let both = ranges(seed);
+    [both[0], last_half(both[1]), first_half(both[1])]
+}
+
+// Whether bytes from the first range's start on have the tags of a second evaluation.
+fn has_tags(machine: &Tagged, ranges: &[TagRange; 2]) -> bool {
+    (0..24).all(|k| {
+        let at = ranges[0].start.wrapping_add(k);
+        machine.tag(at) == tag_at(ranges, at)
+    })
+}
+
+fn whole(alloc: Global, seed: u64) -> Result<Tagged, Fail> {
+    tagged(alloc, seed, &ranges(seed))
+}
+
+fn in_parts(alloc: Global, seed: u64) -> Result<Tagged, Fail> {
+    tagged(alloc, seed, &ranges_in_parts(seed))
+}
+
+// Whether two machines make the same run.
+fn make_the_same_run(first: &mut Tagged, second: &mut Tagged) -> bool {
+    first.run(200) == second.run(200) && first.trace() == second.trace()
+}
+
+// Whether a range does what its two parts do, and the tags are those of a second evaluation.
+fn run_alike_in_parts(alloc: Global, seed: u64) -> Result<bool, Fail> {
+    let mut whole = whole(alloc, seed)?;
+    let mut parts = in_parts(alloc, seed)?;
+    Ok(make_the_same_run(&mut whole, &mut parts) && has_tags(&whole, &ranges(seed)))
+}
+
 #[test]
 fn runs_alike_with_ranges_in_parts(rt: HostRuntime) -> Result<(), Fail> {
     for seed in 0..500 {
-        let mut words = Words { state: !seed };
-        let (first, last) = (words.range(), words.range());
-        let begin = TagRange {
-            bytes: last.bytes / 2,
-            ..last
-        };
-        let rest = TagRange {
-            start: last.start.wrapping_add(begin.bytes),
-            bytes: last.bytes - begin.bytes,
-            tag: last.tag,
-        };
-        let mut whole = loaded(rt.alloc(), hostile(rt.alloc(), seed)?, &[first, last])?;
-        let mut parts = loaded(
-            rt.alloc(),
-            hostile(rt.alloc(), seed)?,
-            &[first, rest, begin],
-        )?;
-        assert_eq!(rt; whole.run(200), parts.run(200));
-        assert!(rt; whole.trace() == parts.trace());
-        for k in 0..24 {
-            let at = first.start.wrapping_add(k);
-            assert!(rt; whole.tag(at) == tag_at(&[first, last], at));
-        }
+        assert!(rt; run_alike_in_parts(rt.alloc(), seed)?);
     }
     Ok(())
 }
 
 // Runs the machine with regions up to a word of code. Where that word isn't code, the run stops there or at the jump to
 // it: gives both stops, or twice the one that came earlier, and `None` where 200 steps don't suffice.
-fn stops_without(plain: &mut Machine<FlatStore>, word: u32) -> Option<[Stop; 2]> {
+fn stops_without(plain: &mut Plain, word: u32) -> Option<[Stop; 2]> {
     let reason = TrapReason::BadJump;
     let mut from = plain.pc();
     for _ in 0..200 {
@@ -183,24 +233,31 @@ fn stops_without(plain: &mut Machine<FlatStore>, word: u32) -> Option<[Stop; 2]>
     None
 }
 
-// A word of code that a range takes away stops the run where the machine with regions comes to it.
+// Whether a run stops at a word of code that a range takes away where the machine with regions comes to it, if it does;
+// and whether it comes to it.
+fn stops_there(alloc: Global, seed: u64) -> Result<(bool, bool), Fail> {
+    let start = START.wrapping_add((seed % 16) as u32 * 4);
+    let taken = TagRange {
+        start,
+        bytes: 4,
+        tag: ByteTag::Unowned,
+    };
+    let mut plain = plain(alloc, seed)?;
+    let mut tagged = tagged(alloc, seed, &[taken])?;
+    let Some(stops) = stops_without(&mut plain, start) else {
+        return Ok((true, false));
+    };
+    let right = stops.contains(&tagged.run(200)) && tagged.trace() == plain.trace();
+    Ok((right, plain.pc() == start))
+}
+
 #[test]
 fn stops_at_what_is_not_code(rt: HostRuntime) -> Result<(), Fail> {
     let mut met = false;
     for seed in 0..500 {
-        let start = START.wrapping_add(seed as u32 % 16 * 4);
-        let taken = TagRange {
-            start,
-            bytes: 4,
-            tag: ByteTag::Unowned,
-        };
-        let mut plain = machines::loaded(rt.alloc(), hostile(rt.alloc(), seed)?, &[], 10)?;
-        let mut tagged = loaded(rt.alloc(), hostile(rt.alloc(), seed)?, &[taken])?;
-        if let Some(stops) = stops_without(&mut plain, start) {
-            assert!(rt; stops.contains(&tagged.run(200)));
-            assert!(rt; tagged.trace() == plain.trace());
-            met = met || plain.pc() == start;
-        }
+        let (right, comes) = stops_there(rt.alloc(), seed)?;
+        assert!(rt; right);
+        met = met || comes;
     }
     assert!(rt; met);
     Ok(())

@@ -1,24 +1,12 @@
 use super::machines::{CALL, SEVEN, STACK_TOP, START, pair, second, single, trap};
+use super::tagged::Tagged;
 use sc_base::Stop::{self, Ended, StepsOut};
-use sc_base::{OutOfMemory, TrapReason};
+use sc_base::TrapReason;
 use sc_event::{CompId, Entry, Event};
 use sc_gate::CrossEntry;
-use sc_image::Image;
-use sc_store::FlatStore;
-use sc_tags::{ByteTag, TagMachine, TagRange};
+use sc_tags::{ByteTag, TagRange};
 use std::alloc::Global;
 use std::test::Fail;
-
-pub(crate) fn loaded(
-    alloc: Global,
-    image: Image,
-    ranges: &[TagRange],
-) -> Result<TagMachine<FlatStore>, OutOfMemory> {
-    if !ranges.iter().all(TagRange::is_within) {
-        return Err(OutOfMemory);
-    }
-    TagMachine::load(alloc, image, ranges, &[], 10).map_err(|_| OutOfMemory)
-}
 
 fn range(start: u32, bytes: u32, tag: ByteTag) -> TagRange {
     TagRange { start, bytes, tag }
@@ -37,7 +25,7 @@ fn comes_to(alloc: Global, ranges: &[TagRange], stop: Stop, events: usize) -> Re
     let comp = CompId::first();
     let all = [Event::Out { comp, value: 7 }, Event::End { comp, value: 0 }];
     let image = single(alloc, true, &SEVEN, &[])?;
-    let mut machine = loaded(alloc, image, ranges)?;
+    let mut machine = Tagged::load(alloc, image, ranges)?;
     let first = machine.run(2);
     let last = machine.run(100);
     let trace = machine.trace();
@@ -66,6 +54,12 @@ fn runs_what_is_tagged_as_code(rt: HostRuntime) -> Result<(), Fail> {
     Ok(())
 }
 
+const CODE: [u32; 5] = [START, START + 6, START + 19, STACK_TOP, STACK_TOP + 1];
+
+const DATA: [u32; 2] = [START + 4, STACK_TOP - 1];
+
+const UNOWNED: [u32; 5] = [START - 1, START + 5, START + 20, STACK_TOP + 2, u32::MAX];
+
 #[test]
 fn tags_by_owner_and_the_last_range(rt: HostRuntime) -> Result<(), Fail> {
     let image = single(rt.alloc(), true, &SEVEN, &[1, 2])?;
@@ -74,27 +68,19 @@ fn tags_by_owner_and_the_last_range(rt: HostRuntime) -> Result<(), Fail> {
         range(STACK_TOP, 9, code()),
         range(START + 5, 1, ByteTag::Unowned),
     ];
-    let machine = loaded(rt.alloc(), image, &ranges)?;
-    for at in [START, START + 6, START + 19, STACK_TOP, STACK_TOP + 1] {
-        assert!(rt; machine.tag(at) == code());
-    }
-    for at in [START + 4, STACK_TOP - 1] {
-        assert!(rt; machine.tag(at) == data());
-    }
-    for at in [START - 1, START + 5, START + 20, STACK_TOP + 2, u32::MAX] {
-        assert!(rt; machine.tag(at) == ByteTag::Unowned);
-    }
+    let machine = Tagged::load(rt.alloc(), image, &ranges)?;
+    assert!(rt; CODE.iter().all(|at| machine.tag(*at) == code()));
+    assert!(rt; DATA.iter().all(|at| machine.tag(*at) == data()));
+    assert!(rt;
+        UNOWNED
+            .iter()
+            .all(|at| machine.tag(*at) == ByteTag::Unowned)
+    );
     Ok(())
 }
 
-// A call makes a capability of level 0, and its return consumes it.
-#[test]
-fn has_a_capability_below_its_level(rt: HostRuntime) -> Result<(), Fail> {
-    let image = pair(rt.alloc(), true, &CALL)?;
-    let mut machine = loaded(rt.alloc(), image, &[])?;
-    assert_eq!(rt; machine.run(2), StepsOut);
-    assert_eq!(rt; machine.level(), 1);
-    assert!(rt; machine.capability(1).is_none());
+// Whether a machine, after two steps, has one capability, which is that of the call.
+fn has_the_capability(machine: &mut Tagged) -> bool {
     let call = CrossEntry {
         caller: CompId::first(),
         pc: START + 8,
@@ -103,26 +89,42 @@ fn has_a_capability_below_its_level(rt: HostRuntime) -> Result<(), Fail> {
         entry: Entry::Export(0),
         saved: STACK_TOP + 0x10_0000,
     };
-    assert!(rt; machine.capability(0) == Some(call));
-    assert_eq!(rt; machine.run(1), StepsOut);
-    assert_eq!(rt; machine.level(), 0);
-    assert!(rt; machine.capability(0).is_none());
-    assert_eq!(rt; machine.run(9), trap(TrapReason::BadCall, 8));
+    machine.run(2) == StepsOut
+        && machine.level() == 1
+        && machine.capability(1).is_none()
+        && machine.capability(0) == Some(call)
+}
+
+// Whether it has none after one more step.
+fn has_consumed_it(machine: &mut Tagged) -> bool {
+    machine.run(1) == StepsOut && machine.level() == 0 && machine.capability(0).is_none()
+}
+
+// A call makes a capability of level 0, and its return consumes it.
+#[test]
+fn has_a_capability_below_its_level(rt: HostRuntime) -> Result<(), Fail> {
+    let image = pair(rt.alloc(), true, &CALL)?;
+    let mut machine = Tagged::load(rt.alloc(), image, &[])?;
+    assert!(rt; has_the_capability(&mut machine));
+    assert!(rt; has_consumed_it(&mut machine));
+    assert!(rt; machine.run(9) == trap(TrapReason::BadCall, 8));
     Ok(())
+}
+
+// Whether a retagged entry takes the call, and stops so.
+fn enters_it(alloc: Global, stop: Stop) -> Result<bool, Fail> {
+    let ranges = [range(0x0110_0000, 4, ByteTag::Data(second()))];
+    let mut machine = Tagged::load(alloc, pair(alloc, true, &CALL)?, &ranges)?;
+    Ok(machine.run(9) == stop && machine.level() == 1 && machine.trace().len() == 1)
 }
 
 // A retagged entry still takes the call, and its compartment traps at the first fetch.
 #[test]
 fn calls_a_retagged_entry(rt: HostRuntime) -> Result<(), Fail> {
-    let image = pair(rt.alloc(), true, &CALL)?;
-    let ranges = [range(0x0110_0000, 4, ByteTag::Data(second()))];
-    let mut machine = loaded(rt.alloc(), image, &ranges)?;
     let stop = Stop::Trap {
         reason: TrapReason::BadJump,
         pc: 0x0110_0000,
     };
-    assert_eq!(rt; machine.run(9), stop);
-    assert_eq!(rt; machine.level(), 1);
-    assert_eq!(rt; machine.trace().len(), 1);
+    assert!(rt; enters_it(rt.alloc(), stop)?);
     Ok(())
 }
