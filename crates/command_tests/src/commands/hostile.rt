@@ -11,15 +11,33 @@ use std::test::Fail;
 const CALLS: u32 = 4096;
 
 // The runs whose ends fail at every call: the words and the input.
-const RUNS: [(&str, &[u8]); 7] = [
+const RUNS: [(&str, &[u8]); 10] = [
     ("explain", STORE),
     ("explain --show 1", STORE),
     ("check", STORE),
     ("meaning", STORE),
     ("compile", STORE),
+    ("run", STORE),
     ("object --section Net", STORE),
     ("exec", &SEVEN_IMAGE),
+    ("tags", &SEVEN_IMAGE),
+    ("judge", JUDGED),
 ];
+
+// A policy of no rule, and a text.
+const JUDGED: &[u8] = b"policy Small
+state s
+policy end
+#pragma compartment Main
+int main(void) {
+  return 7;
+}
+";
+
+// The object of the only section of `SEVEN`, as an input of `link`.
+fn object(alloc: Global) -> Result<Ran, OutOfMemory> {
+    Run::new("object --section Main", SEVEN).run(alloc)
+}
 
 // The text of `return E;`, where E is the middle between these many openings and closings.
 fn nested(alloc: Global, open: &[u8], close: &[u8], height: usize) -> Result<Vec<u8>, AllocError> {
@@ -165,49 +183,72 @@ fn failing(
     run.run(alloc)
 }
 
+// Whether a read that fails is reported whichever it is, and the run is as before where none does.
+fn reports_each_read(alloc: Global, words: &str, input: &[u8]) -> Result<bool, Fail> {
+    let whole = Run::new(words, input).run(alloc)?;
+    for call in 0..CALLS {
+        let ran = failing(alloc, words, input, &[call], &[])?;
+        if ran.status == 0 {
+            return Ok(ran.out.as_slice() == whole.out.as_slice());
+        }
+        let reported = ran.err.as_slice() == b"secomp: read fault\n".as_slice();
+        if ran.status != 7 || !ran.out.is_empty() || !reported {
+            return Ok(false);
+        }
+    }
+    Ok(false)
+}
+
 #[test]
 fn a_read_that_fails_is_reported_at_every_call(rt: HostRuntime) -> Result<(), Fail> {
     for (words, input) in RUNS {
-        let whole = Run::new(words, input).run(rt.alloc())?;
-        for call in 0..CALLS {
-            let ran = failing(rt.alloc(), words, input, &[call], &[])?;
-            if ran.status == 0 {
-                assert!(rt; ran.out.as_slice() == whole.out.as_slice());
-                break;
-            }
-            assert!(rt; ran.status == 7 && ran.out.is_empty());
-            assert!(rt; ran.err.as_slice() == b"secomp: read fault\n".as_slice());
+        assert!(rt; reports_each_read(rt.alloc(), words, input)?);
+    }
+    let object = object(rt.alloc())?;
+    assert!(rt; reports_each_read(rt.alloc(), "link", &object.out)?);
+    Ok(())
+}
+
+// Whether a write that fails is reported whichever it is, behind a beginning of the output.
+fn reports_each_write(alloc: Global, words: &str, input: &[u8]) -> Result<bool, Fail> {
+    let whole = Run::new(words, input).run(alloc)?;
+    for call in 0..CALLS {
+        let ran = failing(alloc, words, input, &[], &[call])?;
+        if ran.status == 0 {
+            return Ok(ran.out.as_slice() == whole.out.as_slice());
+        }
+        if !whole.out.starts_with(&ran.out) || !ran.wrote(8, &ran.out, b"secomp: write fault\n") {
+            return Ok(false);
         }
     }
-    Ok(())
+    Ok(false)
 }
 
 #[test]
 fn a_write_that_fails_is_reported_at_every_call(rt: HostRuntime) -> Result<(), Fail> {
     for (words, input) in RUNS {
-        let whole = Run::new(words, input).run(rt.alloc())?;
-        for call in 0..CALLS {
-            let ran = failing(rt.alloc(), words, input, &[], &[call])?;
-            if ran.status == 0 {
-                assert!(rt; ran.out.as_slice() == whole.out.as_slice());
-                break;
-            }
-            assert!(rt; ran.status == 8 && whole.out.starts_with(&ran.out));
-            assert!(rt; ran.err.as_slice() == b"secomp: write fault\n".as_slice());
-        }
+        assert!(rt; reports_each_write(rt.alloc(), words, input)?);
     }
+    let object = object(rt.alloc())?;
+    assert!(rt; reports_each_write(rt.alloc(), "link", &object.out)?);
     Ok(())
+}
+
+// Whether the run is the same where its ends move a byte at a call.
+fn runs_by_bytes(alloc: Global, words: &str, input: &[u8]) -> Result<bool, Fail> {
+    let whole = Run::new(words, input).run(alloc)?;
+    let ran = Run::new(words, input).run_by_bytes(alloc)?;
+    Ok(ran.wrote(whole.status, &whole.out, &whole.err))
 }
 
 #[test]
 fn ends_that_move_a_byte_at_a_call_change_nothing(rt: HostRuntime) -> Result<(), Fail> {
     for (words, input) in RUNS {
-        let whole = Run::new(words, input).run(rt.alloc())?;
-        let ran = Run::new(words, input).run_by_bytes(rt.alloc())?;
-        assert!(rt; ran.wrote(whole.status, &whole.out, &whole.err));
+        assert!(rt; runs_by_bytes(rt.alloc(), words, input)?);
     }
-    let ran = Run::new("check", b"x").run_by_bytes(rt.alloc())?;
-    assert!(rt; ran.wrote(3, b"", b"secomp: refused syntax line 1\n"));
+    let object = object(rt.alloc())?;
+    assert!(rt; runs_by_bytes(rt.alloc(), "link", &object.out)?);
+    assert!(rt; runs_by_bytes(rt.alloc(), "check", b"x")?);
     let run = Run {
         room: 9,
         ..Run::new("meaning", SEVEN)
