@@ -43,17 +43,17 @@ exprs_height exprs = highest (map expr_height exprs)
 abbrev pub call_height : CallTree → ℕ
 call_height call = exprs_height call.args
 
--- an absent count has no height
-abbrev pub count_height : Option ExprTree → ℕ
-count_height None = 0
-count_height (Some count) = expr_height count
+-- an absent expression has no height
+abbrev pub optional_height : Option ExprTree → ℕ
+optional_height None = 0
+optional_height (Some e) = expr_height e
 
 -- the height of the highest part, 0 where a statement has none
 abbrev pub simple_kind_height : SimpleKind → ℕ
 simple_kind_height (Assign place value) = max (expr_height place) (expr_height value)
 simple_kind_height (AssignCall place call) = max (expr_height place) (call_height call)
 simple_kind_height (Call call) = call_height call
-simple_kind_height (Malloc place count of) = max (expr_height place) (count_height count)
+simple_kind_height (Malloc place count of) = max (expr_height place) (optional_height count)
 simple_kind_height (Free pointer) = expr_height pointer
 
 abbrev pub simple_height : SimpleTree → ℕ
@@ -67,7 +67,7 @@ abbrev pub kind_height_step : StmtKind-F ℕ ℕ → ℕ
 kind_height_step (layer.Assign place value) = max (expr_height place) (expr_height value)
 kind_height_step (layer.AssignCall place call) = max (expr_height place) (call_height call)
 kind_height_step (layer.Call call) = call_height call
-kind_height_step (layer.Malloc place count of) = max (expr_height place) (count_height count)
+kind_height_step (layer.Malloc place count of) = max (expr_height place) (optional_height count)
 kind_height_step (layer.Free pointer) = expr_height pointer
 kind_height_step (layer.If cond then_part else_part) =
     max (expr_height cond) (max (highest then_part) (highest else_part))
@@ -92,12 +92,8 @@ abbrev pub stmts_height : List StmtTree → ℕ
 stmts_height stmts = highest (map stmt_height stmts)
 
 -- a local's initialiser is a tree of its own
-abbrev pub init_height : Option ExprTree → ℕ
-init_height None = 0
-init_height (Some init) = expr_height init
-
 abbrev pub local_height : LocalTree → ℕ
-local_height local = init_height local.init
+local_height local = optional_height local.init
 
 abbrev pub locals_height : List LocalTree → ℕ
 locals_height locals = highest (map local_height locals)

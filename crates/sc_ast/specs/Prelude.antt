@@ -4,8 +4,8 @@ pub use Rattle.sc_ast.specs.ExprWords.{Printed, apart, binary_text, binary_words
 pub use Rattle.sc_ast.specs.ExprWords.{is_doubled, literal_text, place_words, prefix_words, sizeof_words, unary_text}
 pub use Rattle.sc_ast.specs.ExprWords.{words_at}
 pub use Rattle.sc_ast.specs.Heads.{has_nameless, head_of, param_of}
-pub use Rattle.sc_ast.specs.Height.{call_height, count_height, decl_height, decls_height, expr_height, exprs_height}
-pub use Rattle.sc_ast.specs.Height.{function_height, highest, init_height, kind_height, limited, local_height}
+pub use Rattle.sc_ast.specs.Height.{call_height, decl_height, decls_height, expr_height, exprs_height}
+pub use Rattle.sc_ast.specs.Height.{function_height, highest, kind_height, limited, local_height, optional_height}
 pub use Rattle.sc_ast.specs.Height.{locals_height, option_height, section_height, simple_kind_height, stmt_height}
 pub use Rattle.sc_ast.specs.Height.{stmts_height}
 pub use Rattle.sc_ast.specs.Identifiers.{ident_of, is_ident}
@@ -23,7 +23,7 @@ pub use Rattle.sc_ast.specs.SectionWords.{head_words, heading_words, init_words,
 pub use Rattle.sc_ast.specs.SectionWords.{local_line, member_line, minus_words, name_words, param_words, params_words}
 pub use Rattle.sc_ast.specs.SectionWords.{printed, result_words, section_words, struct_words, value_words}
 unfoldable pub use Rattle.sc_ast.specs.SectionWords.{export_words, import_words}
-pub use Rattle.sc_ast.specs.Simple.{stmt_kind_of, stmt_of}
+pub use Rattle.sc_ast.specs.Simple.{stmt_kind_of}
 pub use Rattle.sc_ast.specs.StmtWords.{Layout, after_else, allocation_words, assign_call_words, assign_words}
 pub use Rattle.sc_ast.specs.StmtWords.{block_words, chain_words, condition_words, else_words, ended, equals}
 pub use Rattle.sc_ast.specs.StmtWords.{first_words, for_words, free_words, if_words, is_chain, kind_layout, layouts}

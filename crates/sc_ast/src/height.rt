@@ -1,8 +1,8 @@
 //! How high trees are. Heights stop at 4294967295.
 
-ghost use Rattle.sc_ast.specs.Prelude.{call_height, count_height, decl_height, expr_height, exprs_height};
-ghost use Rattle.sc_ast.specs.Prelude.{function_height, init_height, kind_height, limited, local_height, locals_height};
-ghost use Rattle.sc_ast.specs.Prelude.{option_height, section_height, simple_kind_height, stmt_height, stmts_height};
+ghost use Rattle.sc_ast.specs.Prelude.{call_height, decl_height, expr_height, exprs_height, function_height};
+ghost use Rattle.sc_ast.specs.Prelude.{kind_height, limited, local_height, locals_height, option_height};
+ghost use Rattle.sc_ast.specs.Prelude.{optional_height, section_height, simple_kind_height, stmt_height, stmts_height};
 ghost use Rattle.std.specs.Prelude.{◌≡◌, ◌+◌};
 
 use crate::expr::{CallTree, ExprTree, Exprs};
@@ -62,7 +62,9 @@ fn kind_height(kind: &StmtKind) -> u32
             call.get(),
         )),
         StmtKind::Call(call) => call_height(call.get()),
-        StmtKind::Malloc { place, count, .. } => expr_height(place.get()).max(count_height(count)),
+        StmtKind::Malloc { place, count, .. } => expr_height(place.get()).max(optional_height(
+            count,
+        )),
         StmtKind::Free(pointer) => expr_height(pointer.get()),
         StmtKind::If {
             cond,
@@ -123,16 +125,7 @@ fn locals_height(locals: &LocalTrees) -> u32
 fn local_height(local: &LocalTree) -> u32
     ensures { result ≡ limited (local_height local.now) }
 {
-    init_height(&local.init)
-}
-
-fn init_height(init: &Option<ExprTree>) -> u32
-    ensures { result ≡ limited (init_height init.now) }
-{
-    match init {
-        None => 0,
-        Some(init) => expr_height(init),
-    }
+    optional_height(&local.init)
 }
 
 fn option_height(simple: &Option<Boxed<SimpleTree>>) -> u32
@@ -156,18 +149,18 @@ fn simple_kind_height(kind: &SimpleKind) -> u32
         )),
         SimpleKind::Call(call) => call_height(call.get()),
         SimpleKind::Malloc { place, count, .. } => {
-            expr_height(place.get()).max(count_height(count))
+            expr_height(place.get()).max(optional_height(count))
         }
         SimpleKind::Free(pointer) => expr_height(pointer.get()),
     }
 }
 
-fn count_height(count: &Option<Boxed<ExprTree>>) -> u32
-    ensures { result ≡ limited (count_height count.now) }
+fn optional_height(expr: &Option<Boxed<ExprTree>>) -> u32
+    ensures { result ≡ limited (optional_height expr.now) }
 {
-    match count {
+    match expr {
         None => 0,
-        Some(count) => expr_height(count.get()),
+        Some(expr) => expr_height(expr.get()),
     }
 }
 

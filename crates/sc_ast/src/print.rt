@@ -26,6 +26,7 @@ use crate::section::{
 };
 use crate::stmt::Stmts;
 use sc_base::{Name, OutOfMemory, Text};
+use sqlite_items::Boxed;
 use std::alloc::Global;
 
 /// The text of a section, whose lines need not be those of the tree.
@@ -153,14 +154,14 @@ fn append_local(out: &mut Text, local: &LocalTree) -> Result<(), OutOfMemory>
     out.append(b";\n")
 }
 
-fn append_value(out: &mut Text, value: &Option<ExprTree>) -> Result<(), OutOfMemory>
+fn append_value(out: &mut Text, value: &Option<Boxed<ExprTree>>) -> Result<(), OutOfMemory>
     ensures { OnOk result (out.new ≡ out.old ++ text_of (value_words value.now)) }
 {
     match value {
         None => Ok(()),
         Some(value) => {
             out.append(b" = ")?;
-            append_expr(out, value)
+            append_expr(out, value.get())
         }
     }
 }

@@ -5,7 +5,7 @@ use crate::number::Literal;
 use crate::stmt::Stmts;
 use crate::types::{TypeName, TypeTree};
 use sc_base::Name;
-use sqlite_items::Items;
+use sqlite_items::{Boxed, Items};
 
 /// A section: a compartment, what it exports and imports, and its declarations in order.
 #[derive(Drop)]
@@ -151,7 +151,7 @@ pub struct FunctionTree {
 pub struct LocalTree {
     pub ty: TypeTree,
     pub name: Ident,
-    pub init: Option<ExprTree>,
+    pub init: Option<Boxed<ExprTree>>,
     pub line: u32,
 }
 

@@ -1,4 +1,4 @@
-ghost use Rattle.sc_ast.specs.Prelude.{stmt_of};
+ghost use Rattle.sc_ast.specs.Prelude.{stmt_kind_of};
 ghost use Rattle.std.specs.Prelude.{◌≡◌};
 
 use crate::expr::{CallTree, ExprTree};
@@ -105,19 +105,17 @@ pub enum SimpleKind {
     Free(Boxed<ExprTree>),
 }
 
-impl SimpleTree {
-    /// The same statement, to stand anywhere.
-    pub fn into_stmt(self) -> StmtTree
-        ensures { result ≡ stmt_of self }
+impl SimpleKind {
+    /// What the same statement does where it stands by itself (C11 6.8.3).
+    pub fn into_stmt_kind(self) -> StmtKind
+        ensures { result ≡ stmt_kind_of self }
     {
-        let SimpleTree { line, kind } = self;
-        let kind = match kind {
+        match self {
             SimpleKind::Assign { place, value } => StmtKind::Assign { place, value },
             SimpleKind::AssignCall { place, call } => StmtKind::AssignCall { place, call },
             SimpleKind::Call(call) => StmtKind::Call(call),
             SimpleKind::Malloc { place, count, of } => StmtKind::Malloc { place, count, of },
             SimpleKind::Free(pointer) => StmtKind::Free(pointer),
-        };
-        StmtTree { line, kind }
+        }
     }
 }

@@ -3,7 +3,7 @@ use Rattle.sc_parse.proofs.Common.{BaseTree, Declares, ExprTree, FunctionHead, F
 use Rattle.sc_parse.proofs.Common.{HeadTree, IsLocal, IsMark, Lexeme, List, LocalTree, None, Option, ParamTree, Some}
 use Rattle.sc_parse.proofs.Common.{SpellsStmts, SpellsValue, StmtTree, [], a_value, add_local, ap, append_assoc, arith}
 use Rattle.sc_parse.proofs.Common.{body_at, bound, declaration_at, declares, false, first_line, first_mark, following}
-use Rattle.sc_parse.proofs.Common.{function_head, function_param, function_tree, glued, head_of, init_height}
+use Rattle.sc_parse.proofs.Common.{function_head, function_param, function_tree, glued, head_of, optional_height}
 use Rattle.sc_parse.proofs.Common.{local, local_at, local_height, locals_at, locals_height, map, named_head}
 use Rattle.sc_parse.proofs.Common.{named_params, no_base, no_value, param_of, refl, same_some, subst, sym, true}
 use Rattle.sc_parse.proofs.Common.{value_at, ℕ, ◌++◌, ◌>>=◌, ◌∙◌, ◌∷◌, ◌≡◌}
@@ -21,7 +21,7 @@ use Rattle.sc_parse.proofs.Nested.{IsStmts, stmts_exact}
 
 -- the initialiser of a local, at most `limit` high
 abbrev IsValue : ℕ → Form (Option ExprTree)
-IsValue limit = Low SpellsValue init_height limit
+IsValue limit = Low SpellsValue optional_height limit
 
 abbrev EndsValue : Property
 EndsValue rest = (following mark.Equal rest ≡ None) × NoExtension rest

@@ -17,9 +17,9 @@ pub use Rattle.sc_lex.specs.declared.token.Token.{Token}
 pub use Rattle.sc_ast.proofs.Statements.{break_height, continue_height, empty_height, for_height, if_height}
 pub use Rattle.sc_ast.proofs.Statements.{plain_height, return_call_height, return_height, tree_height, value_height}
 pub use Rattle.sc_ast.proofs.Statements.{while_height}
-pub use Rattle.sc_ast.specs.Prelude.{Number, array_length, call_height, count_height, decl_height, decls_height}
+pub use Rattle.sc_ast.specs.Prelude.{Number, array_length, call_height, decl_height, decls_height}
 pub use Rattle.sc_ast.specs.Prelude.{expr_height, malloc_argument}
-pub use Rattle.sc_ast.specs.Prelude.{exprs_height, has_nameless, head_of, highest, init_height, is_place, kind_height}
+pub use Rattle.sc_ast.specs.Prelude.{exprs_height, has_nameless, head_of, highest, is_place, kind_height, optional_height}
 pub use Rattle.sc_ast.specs.Prelude.{stmt_kind_of, local_height, locals_height, non_empty, option_height, param_of}
 pub use Rattle.sc_ast.specs.Prelude.{section_height, simple_kind_height, stmts_height}
 pub use Rattle.sc_ast.specs.declared.section.FunctionParam.{FunctionParam}

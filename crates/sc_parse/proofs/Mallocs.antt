@@ -1,6 +1,6 @@
 -- An argument of `malloc` names one count and one type, and is read exactly as it is spelled.
 use Rattle.sc_parse.proofs.Common.{BinaryOp, ExprTree, Keyword, Lexeme, List, None, Option, SimpleKind, Some, TypeName}
-use Rattle.sc_parse.proofs.Common.{allocated_at, ap, arith, bound, count_height, expr_height, false≢true, is_free}
+use Rattle.sc_parse.proofs.Common.{allocated_at, ap, arith, bound, optional_height, expr_height, false≢true, is_free}
 use Rattle.sc_parse.proofs.Common.{is_malloc, malloc_argument, malloc_by, malloc_of, max, none-some, product_by, refl}
 use Rattle.sc_parse.proofs.Common.{rules, same_some, sized_type, subst, sym, true, ℕ, ◌+◌, ◌∙◌, ◌≡◌, ◌≤◌}
 use Rattle.sc_base.specs.declared.op.BinaryOp.TheVariants as binary
@@ -60,13 +60,13 @@ malloc_gives (Some count) of = search (rules, the_lemmas)
 
 -- an argument is one higher than a count, and 2 high at least where it has one
 pub argument_height : (count : Option ExprTree) (of : TypeName) →
-    expr_height (malloc_argument count of) ≤ max (count_height count) 1 + 1
+    expr_height (malloc_argument count of) ≤ max (optional_height count) 1 + 1
 argument_height None of = let size = size_height of in omega arith
 argument_height (Some count) of = let size = size_height of in
     let product = joined_height binary.Mul count (expr.SizeOf of) in omega arith
 
 pub argument_low : (count : Option ExprTree) (of : TypeName) →
-    count_height count + 1 ≤ expr_height (malloc_argument count of)
+    optional_height count + 1 ≤ expr_height (malloc_argument count of)
 argument_low None of = let size = size_height of in omega arith
 argument_low (Some count) of = let product = joined_height binary.Mul count (expr.SizeOf of) in omega arith
 

@@ -16,15 +16,15 @@ use sc_ast::{
 };
 use sc_base::MAX_HEIGHT;
 use sc_parse_expr::{Lexemes, Mark, SyntaxFault, base_at, refused, take};
-use sqlite_items::Items;
+use sqlite_items::{Boxed, Items};
 use std::alloc::Global;
 
 #[tactic(auto, unfolding(crate::specs::SectionReaders::value_at))]
-fn value_at(alloc: Global, rest: &mut Lexemes<'_>) -> Result<Option<ExprTree>, SyntaxFault>
+fn value_at(alloc: Global, rest: &mut Lexemes<'_>) -> Result<Option<Boxed<ExprTree>>, SyntaxFault>
     ensures { Agrees (λ x. (x, rest.new)) result (value_at most_brackets most_height rest.old) }
 {
     if skip(Mark::Equal, rest) {
-        Ok(Some(expr_at(alloc, MAX_HEIGHT, rest)?.into_inner()))
+        Ok(Some(expr_at(alloc, MAX_HEIGHT, rest)?))
     } else {
         Ok(None)
     }

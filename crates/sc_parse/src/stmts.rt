@@ -5,14 +5,13 @@ ghost use Rattle.sc_parse.specs.Prelude.{Agrees, adds, after_else, after_for, af
 ghost use Rattle.sc_parse.specs.Prelude.{ended_at, first_part, for_head, is_else, keyword_at, kind_by, last_part};
 ghost use Rattle.sc_parse.specs.Prelude.{loop_of, middle_part, plain_at, returned, simple_or_none, stmt_at};
 ghost use Rattle.sc_parse.specs.Prelude.{stmt_within, stmts_at, value_returned};
-ghost use Rattle.sc_ast.specs.Prelude.{stmt_kind_of};
 ghost use Rattle.std.specs.Prelude.{◌≡◌, ◌≤◌, ◌<◌, ◌+◌, [], ◌∷◌, length, drop, true, false, IfOk};
 ghost use Rattle.sc_parse.specs.StmtReaders.{lone_if};
 
 use crate::calls::{call_at, condition_at, expr_at};
 use crate::lookahead::{begins_call, ended_by, is_else};
 use crate::simple::{part_at, simple_at, test_at};
-use sc_ast::{ExprTree, SimpleKind, SimpleTree, StmtKind, StmtTree, Stmts};
+use sc_ast::{ExprTree, SimpleTree, StmtKind, StmtTree, Stmts};
 use sc_parse_expr::{Keyword, Lexemes, Mark, SyntaxFault, begins_with, refused, take};
 use sqlite_items::{Boxed, Items};
 use std::alloc::Global;
@@ -23,18 +22,6 @@ struct ForHead {
     first: Option<Boxed<SimpleTree>>,
     cond: Boxed<ExprTree>,
     next: Option<Boxed<SimpleTree>>,
-}
-
-fn kind_of(kind: SimpleKind) -> StmtKind
-    ensures { result ≡ stmt_kind_of kind }
-{
-    match kind {
-        SimpleKind::Assign { place, value } => StmtKind::Assign { place, value },
-        SimpleKind::AssignCall { place, call } => StmtKind::AssignCall { place, call },
-        SimpleKind::Call(call) => StmtKind::Call(call),
-        SimpleKind::Malloc { place, count, of } => StmtKind::Malloc { place, count, of },
-        SimpleKind::Free(pointer) => StmtKind::Free(pointer),
-    }
 }
 
 fn value_returned(alloc: Global, room: u32, rest: &mut Lexemes<'_>) -> Result<StmtKind, SyntaxFault>
@@ -66,7 +53,7 @@ fn simple_or_none(alloc: Global, room: u32, rest: &mut Lexemes<'_>) -> Result<St
     if begins_with(Mark::Semicolon, rest) {
         Ok(StmtKind::Empty)
     } else {
-        Ok(kind_of(simple_at(alloc, room, rest)?))
+        Ok(simple_at(alloc, room, rest)?.into_stmt_kind())
     }
 }
 

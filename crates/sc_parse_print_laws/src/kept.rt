@@ -53,11 +53,11 @@ pub fn keeps_leaves(expr: &ExprTree)
 }
 
 /// The same of an expression that may be absent.
-pub fn keeps_value(value: &Option<ExprTree>)
+pub fn keeps_value(value: &Option<Boxed<ExprTree>>)
     ensures { IsTrue (kept_value value.now) }
 {
     if let Some(value) = value {
-        keeps_leaves(value);
+        keeps_leaves(value.get());
     }
 }
 

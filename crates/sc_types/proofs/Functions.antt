@@ -161,7 +161,7 @@ module _ (section : SectionTree) where
   }
 
   init_low : (tree : FunctionTree) (place : ℕ) (t : Ty) (init : Option ExprTree) →
-      init_height (typed_init section tree place t init) ≡ surface.init_height init
+      init_height (typed_init section tree place t init) ≡ surface.optional_height init
   init_low tree place t None = refl
   init_low tree place t (Some init) = heights.going_height t _ ∙
       heights.typed_height (visible_in section tree (suc place)) init

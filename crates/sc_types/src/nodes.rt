@@ -45,21 +45,12 @@ fn expr_nodes(expr: &ExprTree) -> u32
     }
 }
 
-fn option_nodes(expr: &Option<ExprTree>) -> u32
+fn option_nodes(expr: &Option<Boxed<ExprTree>>) -> u32
     ensures { result ≡ limited (option_nodes expr.now) }
 {
     match expr {
         None => 0,
-        Some(expr) => expr_nodes(expr),
-    }
-}
-
-fn count_nodes(count: &Option<Boxed<ExprTree>>) -> u32
-    ensures { result ≡ limited (option_nodes count.now) }
-{
-    match count {
-        None => 0,
-        Some(count) => expr_nodes(count.get()),
+        Some(expr) => expr_nodes(expr.get()),
     }
 }
 
@@ -85,7 +76,7 @@ fn simple_nodes(kind: &SimpleKind) -> u32
         }
         SimpleKind::Call(call) => over(call_nodes(call.get())),
         SimpleKind::Malloc { place, count, .. } => {
-            over(both(expr_nodes(place.get()), count_nodes(count)))
+            over(both(expr_nodes(place.get()), option_nodes(count)))
         }
         SimpleKind::Free(pointer) => over(expr_nodes(pointer.get())),
     }
@@ -132,7 +123,7 @@ fn kind_nodes(kind: &StmtKind) -> u32
         }
         StmtKind::Call(call) => over(call_nodes(call.get())),
         StmtKind::Malloc { place, count, .. } => {
-            over(both(expr_nodes(place.get()), count_nodes(count)))
+            over(both(expr_nodes(place.get()), option_nodes(count)))
         }
         StmtKind::Free(pointer) => over(expr_nodes(pointer.get())),
         StmtKind::If {

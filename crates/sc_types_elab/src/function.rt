@@ -11,7 +11,7 @@ use sc_base::{NameList, OutOfMemory};
 use sc_core::{Ty, TypedExpr, TypedFunction, TypedLocal, TypedLocals, TypedParam};
 use sc_types_elab_expr::{FunctionScope, SectionScope, Variables, type_of_name};
 use sc_types_elab_stmt::{build_stmts, build_value};
-use sqlite_items::Items;
+use sqlite_items::{Boxed, Items};
 use std::alloc::Global;
 
 fn param_variables(
@@ -36,14 +36,14 @@ fn build_init(
     scope: &SectionScope,
     function: &FunctionScope,
     ty: Ty,
-    init: &Option<ExprTree>,
+    init: &Option<Boxed<ExprTree>>,
 ) -> Result<Option<TypedExpr>, OutOfMemory>
     ensures { IfOk result (λ built. built ≡ option_map (value_in scope.now function.now ty) init.now) }
 {
     match init {
         None => Ok(None),
         Some(init) => {
-            let built = build_value(alloc, scope, function, ty, init)?;
+            let built = build_value(alloc, scope, function, ty, init.get())?;
             Ok(Some(built.expr))
         }
     }

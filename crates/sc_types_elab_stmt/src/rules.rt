@@ -40,7 +40,7 @@ impl Place<'_> {
         &self,
         alloc: Global,
         ty: Ty,
-        init: &Option<ExprTree>,
+        init: &Option<Boxed<ExprTree>>,
     ) -> Result<bool, OutOfMemory>
         ensures { (scope : Scope) → Suits (visible self.now.section.now self.now.function.now) scope →
             IfOk result (λ holds. holds ≡ init_goes (visible self.now.section.now self.now.function.now) scope ty
@@ -48,7 +48,7 @@ impl Place<'_> {
     {
         match init {
             None => Ok(true),
-            Some(init) => self.goes(alloc, ty, init),
+            Some(init) => self.goes(alloc, ty, init.get()),
         }
     }
 

@@ -136,17 +136,8 @@ fn malloc_known(
     ensures { result ≡ malloc_known (known names.now own.now) place.now count.now of.now }
 {
     knows(names, own, place.get())
-        && count_known(names, own, count)
+        && option_knows(names, own, count)
         && base_known(&names.structs, &of.base)
-}
-
-fn count_known(names: &SectionNames, own: &NameList, count: &Option<Boxed<ExprTree>>) -> bool
-    ensures { result ≡ option_knows names.now.structs (names.now.globals ++ own.now) count.now }
-{
-    match count {
-        None => true,
-        Some(count) => knows(names, own, count.get()),
-    }
 }
 
 fn call_known(names: &SectionNames, own: &NameList, call: &CallTree) -> bool
@@ -169,12 +160,12 @@ fn all_known(names: &SectionNames, own: &NameList, exprs: &Exprs) -> bool
 }
 
 /// Whether this of an expression, if it is there: each variable is a global or one of `own`, each tag a struct's.
-pub fn option_knows(names: &SectionNames, own: &NameList, expr: &Option<ExprTree>) -> bool
+pub fn option_knows(names: &SectionNames, own: &NameList, expr: &Option<Boxed<ExprTree>>) -> bool
     ensures { result ≡ option_knows names.now.structs (names.now.globals ++ own.now) expr.now }
 {
     match expr {
         None => true,
-        Some(expr) => knows(names, own, expr),
+        Some(expr) => knows(names, own, expr.get()),
     }
 }
 
