@@ -19,7 +19,8 @@ pub use Rattle.sc_ast.proofs.Statements.{plain_height, return_call_height, retur
 pub use Rattle.sc_ast.proofs.Statements.{while_height}
 pub use Rattle.sc_ast.specs.Prelude.{Number, array_length, call_height, decl_height, decls_height}
 pub use Rattle.sc_ast.specs.Prelude.{expr_height, malloc_argument}
-pub use Rattle.sc_ast.specs.Prelude.{exprs_height, has_nameless, head_of, highest, is_place, kind_height, optional_height}
+pub use Rattle.sc_ast.specs.Prelude.{exprs_height, has_nameless, head_of, highest, is_place, kind_height}
+pub use Rattle.sc_ast.specs.Prelude.{optional_height}
 pub use Rattle.sc_ast.specs.Prelude.{stmt_kind_of, local_height, locals_height, non_empty, option_height, param_of}
 pub use Rattle.sc_ast.specs.Prelude.{section_height, simple_kind_height, stmts_height}
 pub use Rattle.sc_ast.specs.declared.section.FunctionParam.{FunctionParam}

@@ -1,5 +1,6 @@
 -- What is asked of `explain`, `judge`, `make` and `tags` is bounded.
-use Rattle.sc_top.proofs.Common.{All, Bool, Check, Command, Compile, Exec, Explain, IsBounded, IsInput, IsWithinLimit, Judge}
+use Rattle.sc_top.proofs.Common.{All, Bool, Check, Command, Compile, Exec, Explain, IsBounded, IsInput, IsWithinLimit}
+use Rattle.sc_top.proofs.Common.{Judge}
 use Rattle.sc_top.proofs.Common.{List, Object, [], ◌+◌, ◌∷◌}
 use Rattle.sc_top.proofs.Common.{Make, MakeOptions, Meaning, None, Option, Run, RunOptions, Some, arith, codes, false}
 use Rattle.sc_top.proofs.Common.{if◌then◌else◌, leb-true, nat_le, none-some, option_and_then, option_map, refl, subst}
@@ -114,8 +115,8 @@ of_data None range is =
 of_data (Some text) range is = of_ranges (range_of (pieces text)) (of_range (pieces text)) range is
 
 of_tags : (run : Option RunOptions) (value : Option (List ℕ)) (c : Command) →
-    option_and_then (λ options. option_map (λ range. commands.Tags options range) (words.data_range value)) run ≡ Some c →
-    IsBounded c
+    option_and_then (λ options. option_map (λ range. commands.Tags options range) (words.data_range value)) run ≡
+    Some c → IsBounded c
 of_tags None value c is = absurd (none-some c is)
 of_tags (Some options) value c is = by (words.data_range value) refl is
   where

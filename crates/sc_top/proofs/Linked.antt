@@ -145,7 +145,8 @@ names_along : (comps : List Interface) (parts : List CompPart) → AllZip HasInt
 names_along [] [] all = refl
 names_along [] (part ∷ parts) all = absurd all
 names_along (comp ∷ comps) [] all = absurd all
-names_along (comp ∷ comps) (part ∷ parts) all = ap₂ (λ name names. name ∷ names) all.0.name (names_along comps parts all.1)
+names_along (comp ∷ comps) (part ∷ parts) all =
+    ap₂ (λ name names. name ∷ names) all.0.name (names_along comps parts all.1)
 
 module _ (comps : List Interface) (distinct : IsDistinct (map (λ (comp : Interface). comp.name) comps)) where
   abbrev name_at : (i : ℕ) → Interface → List ℕ

@@ -1,7 +1,7 @@
 -- Without a range the machine with tags runs as that with regions.
 use Rattle.sc_top.proofs.Common.{HasExplanation, HasImage, ImageParts, Interfaces, IsExecuted, IsWellFormed, List, None}
-use Rattle.sc_top.proofs.Common.{RunOptions, ap₂, image_interfaces, machine_run, machine_text, map, run_text, subst, sym, word_of, ℕ}
-use Rattle.sc_top.proofs.Common.{◌∙◌, ◌≡◌}
+use Rattle.sc_top.proofs.Common.{RunOptions, ap₂, image_interfaces, machine_run, machine_text, map, run_text, subst}
+use Rattle.sc_top.proofs.Common.{sym, word_of, ℕ, ◌∙◌, ◌≡◌}
 use Rattle.sc_tags.specs.Prelude.{TagsAgree}
 use Rattle.sc_top.proofs.Known.{inputs_are_words}
 use Rattle.sc_top.proofs.Outputs.{one_image}

@@ -11,8 +11,8 @@ use sc_image::{Image, write_image};
 use sc_object::{Objects, link_objects, read_objects};
 use std::alloc::Global;
 
-/// The image of the objects whose bytes stand one after the other. The bytes go once the objects are read, and these once
-/// they are joined: of bytes, objects, image and output two are there at a time.
+/// The image of the objects whose bytes stand one after the other. The bytes go once the objects are read, and these
+/// once they are joined: of bytes, objects, image and output two are there at a time.
 pub(crate) fn link(alloc: Global, bytes: Text) -> Result<Text, Failure>
     requires { length bytes ≤ most_image }
     ensures ok { IfOk result (IsOutput Link bytes) }

@@ -11,7 +11,8 @@ pub use Rattle.sc_top_words.specs.Options.{options, when_complete}
 unfoldable pub use Rattle.sc_top_words.specs.Options.{settings}
 pub use Rattle.sc_top_words.specs.Ranges.{range_of, range_within}
 pub use Rattle.sc_top_words.specs.Usage.{usage_text}
-pub use Rattle.sc_top_words.specs.Words.{command_with, commands, data_range, events, explain, form_of, inputs, limit, make}
+pub use Rattle.sc_top_words.specs.Words.{command_with, commands, data_range, events, explain, form_of, inputs}
+pub use Rattle.sc_top_words.specs.Words.{limit, make}
 pub use Rattle.sc_top_words.specs.Words.{make_form, meaning_options, most_steps, object, object_form, parsed}
 pub use Rattle.sc_top_words.specs.Words.{run_options, section, section_name, tags, text_to_show, with_values}
 unfoldable pub use Rattle.sc_top_words.specs.Words.{command}

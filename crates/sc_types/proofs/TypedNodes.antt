@@ -277,7 +277,8 @@ module _ (visible : Visible) where
         surface.expr_height value
     value_is place value = going_height _ _ ∙ typed_height value
 
-    count_is : (count : Option ExprTree) → count_height (typed_count visible callees count) ≡ surface.optional_height count
+    count_is : (count : Option ExprTree) →
+        count_height (typed_count visible callees count) ≡ surface.optional_height count
     count_is None = refl
     count_is (Some e) = typed_height e
 

@@ -377,7 +377,7 @@ on opened call * Vault close to shut
 on shut call * Vault take deny
 policy end
 // A clerk who opens a vault before taking from it, and closes it at the end.
-// An order is pairs of a field and what it holds, up to field 0: field 1 is how much to take, and field 2 from which shelf.
+// An order is pairs of a field and what it holds, up to field 0: 1 is how much to take, 2 from which shelf.
 #pragma compartment Clerk
 #pragma import Vault open
 #pragma import Vault take
