@@ -1,8 +1,9 @@
 #!/bin/sh
-# Runs a program whose compartment ever has more than 2^32 variables: a function of 4,000 locals, called 1,100,000 times.
-# Usage: bench/blocks.sh [PROGRAM]. PROGRAM is a built secomp, by default what ./secomp runs.
-# Numbers of variables have 64 bits, so the run goes to its end as every other: the script prints what the program prints
-# and the seconds that it took, and fails where the answer isn't the end of `main`.
+# Runs a program whose compartment ever has more than 2^32 variables: a function of 4,000 locals, called 1,100,000
+# times.
+# Usage: bench/blocks.sh [PROGRAM]. PROGRAM is a built secomp, by default what ./secomp runs. Numbers of variables
+# have 64 bits, so the run goes to its end as every other: the script prints what the program prints and the seconds
+# that it took, and fails where the answer isn't the end of `main`.
 set -e
 top=$(cd "$(dirname "$0")/.." && pwd)
 program=${1:-$top/secomp}

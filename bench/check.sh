@@ -1,6 +1,6 @@
 #!/bin/sh
-# Times `secomp check` on texts of 1, 2, 4 and 8 MiB, and `clang -fsyntax-only` on the same functions. They have a loop, a
-# branch, an array and a call each, and stand in 31 compartments.
+# Times `secomp check` on texts of 1, 2, 4 and 8 MiB, and `clang -fsyntax-only` on the same functions. They have a
+# loop, a branch, an array and a call each, and stand in 31 compartments.
 # Usage: bench/check.sh [PROGRAM]. PROGRAM is a built secomp (by default what ./secomp runs).
 # It prints, for each text and program, the seconds of the fastest of three runs, MB/s, and the most memory in MiB.
 set -e

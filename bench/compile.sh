@@ -1,6 +1,7 @@
 #!/bin/sh
-# Times `secomp compile` on texts of 64 KiB, 256 KiB and 1 MiB, and `tcc -c`, `clang -O0 -c` and `gcc -O0 -c` on the same
-# functions. They have a loop, a branch, an array and a call each, and stand in 31 compartments, so that each one's code fits.
+# Times `secomp compile` on texts of 64 KiB, 256 KiB and 1 MiB, and `tcc -c`, `clang -O0 -c` and `gcc -O0 -c` on the
+# same functions. They have a loop, a branch, an array and a call each, and stand in 31 compartments, so that each
+# one's code fits.
 # Usage: bench/compile.sh [PROGRAM]. PROGRAM is a built secomp (by default what ./secomp runs).
 # It prints, for each text and compiler, the seconds of the fastest of three runs, MB/s, and the most memory in MiB.
 set -e

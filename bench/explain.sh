@@ -1,12 +1,12 @@
 #!/bin/sh
 # Times `secomp explain` on texts whose chains have 0, 1, 8 and 31 links, against its parts: `run` on the text, and
-# `meaning` on each text of the chain, with as many turns as the machine may take steps and as many events as it emitted.
-# In each text `Main` runs 620,000 rounds of a loop, in as many parts as the chain has texts, and after each but the
-# last calls a compartment that stores past the end of an array. Then it prints the most memory of `explain` at two
-# numbers of steps, on a text whose `Main` loops for ever once it has called such a compartment.
-# Usage: bench/explain.sh [PROGRAM]. PROGRAM is a built secomp (by default what ./secomp runs). An
-# unproved build is some thousand times slower.
-# Each time is the fastest of three runs; the ratio is that of `explain` to 1.2 times `run` and all `meaning`s.
+# `meaning` on each text of the chain, with as many turns as the machine may take steps and as many events as it
+# emitted. In each text `Main` runs 620,000 rounds of a loop, in as many parts as the chain has texts, and after
+# each but the last calls a compartment that stores past the end of an array. Then it prints the most memory of
+# `explain` at two numbers of steps, on a text whose `Main` loops for ever once it has called such a compartment.
+# Usage: bench/explain.sh [PROGRAM]. PROGRAM is a built secomp (by default what ./secomp runs). An unproved build is
+# some thousand times slower. Each time is the fastest of three runs; the ratio is that of `explain` to 1.2 times
+# `run` and all `meaning`s.
 set -e
 top=$(cd "$(dirname "$0")/.." && pwd)
 program=${1:-$top/secomp}

@@ -3,7 +3,8 @@
 
 - The least stack, in KiB, with which a run gives the answer that it gives with much: on trees 250 high of each form, on
   brackets at their limit, on calls 32 compartments deep, on 4,096 exports.
-- Seconds and bytes of memory a byte of text of `check`, for texts of 8 MiB of one form each, and of `compile` for 1 MiB.
+- Seconds and bytes of memory a byte of text of `check`, for texts of 8 MiB of one form each, and of `compile` for
+  1 MiB.
 - Seconds and MiB of `explain` on chains of 32 links with 4,096 events and 16,777,216 steps, of `exec` and `link` on
   images and objects of nearly 64 MiB.
 
@@ -129,7 +130,8 @@ def stacks(program):
     for name, text in DEEP.items():
         row = [least_stack(program, words, text) for words in STACK]
         worst = max([worst] + [(least, name, words[0]) for (_, least), words in zip(row, STACK)])
-        print("%-22s " % name + " ".join("%8s" % (least if status == 0 else "(%d) %d" % (status, least)) for status, least in row))
+        told = [least if status == 0 else "(%d) %d" % (status, least) for status, least in row]
+        print("%-22s " % name + " ".join("%8s" % it for it in told))
     print("most: %d KiB, %s, %s" % worst)
 
 
@@ -191,7 +193,7 @@ def sizes(program, words, size):
 
 
 def links():
-    """A program of 32 compartments that are all replaced, whose main one loops for long before and emits 4,096 events."""
+    """A program of 32 compartments that are all replaced, whose main one loops for long, then emits 4,096 events."""
     others = range(1, 32)
     text = MAIN + "".join(f"#pragma import C{at} f{at}\n" for at in others) + "#pragma import Env output\n"
     text += "void output(int v);\n" + "".join(f"int f{at}(int v);\n" for at in others)

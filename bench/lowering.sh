@@ -1,10 +1,10 @@
 #!/bin/sh
-# Times the lowering of texts of 64 KiB, 256 KiB and 1 MiB, the longest that are read, to three-address code. They have
-# small functions, each with a loop, a branch, an array and a call.
-# Usage: bench/lowering.sh [FOLDER]. FOLDER (by default a new one) gets a copy of the crates and a program over them, which
-# is proved and built there; that takes long the first time.
-# It prints, for each text, its nodes, the seconds of the fastest of three runs, nodes per second, and the most memory that
-# the program had, which holds the text and its typed program too.
+# Times the lowering of texts of 64 KiB, 256 KiB and 1 MiB, the longest that are read, to three-address code. They
+# have small functions, each with a loop, a branch, an array and a call.
+# Usage: bench/lowering.sh [FOLDER]. FOLDER (by default a new one) gets a copy of the crates and a program over
+# them, which is proved and built there; that takes long the first time.
+# It prints, for each text, its nodes, the seconds of the fastest of three runs, nodes per second, and the most
+# memory that the program had, which holds the text and its typed program too.
 set -e
 top=$(cd "$(dirname "$0")/.." && pwd)
 work=${1:-$(mktemp -d)}
@@ -33,7 +33,10 @@ text() {
 for size in 65536 262144 1048576; do
     text $size > "$work/text"
     for run in 1 2 3; do
-        /usr/bin/time -f %M -o "$work/memory" "$work/crates/bench_lowering/out/bench_lowering" < "$work/text" > "$work/told"
+        /usr/bin/time -f %M -o "$work/memory" "$work/crates/bench_lowering/out/bench_lowering" \
+            < "$work/text" > "$work/told"
         echo "$(cat "$work/told") $(cat "$work/memory")"
-    done | sort -k3,3n | head -1 | awk '{ printf "%7d bytes  %7d nodes  %.4f s  %.2f million nodes/s  %d KiB\n", $1, $2, $3 / 1e9, $2 / $3 * 1e3, $4 }'
+    done | sort -k3,3n | head -1 | 
+        awk '{ printf "%7d bytes  %7d nodes  %.4f s  %.2f million nodes/s  %d KiB\n",
+            $1, $2, $3 / 1e9, $2 / $3 * 1e3, $4 }'
 done

@@ -1,10 +1,11 @@
 #!/bin/sh
-# Times `secomp meaning` on small programs of 16,777,216 turns, and the same programs as C, compiled by
-# `clang -O0 -fsanitize=undefined`; one that allocates, with `address` beside it.
+# Times `secomp meaning` on small programs of 16,777,216 turns, and the same programs as C, compiled by `clang -O0
+# -fsanitize=undefined`; one that allocates, with `address` beside it.
 # Usage: bench/meaning.sh [PROGRAM]. PROGRAM is a built secomp (by default what ./secomp runs).
-# It prints, for each program, turns per second of both and how many times as long the meaning takes. A cross call is two
-# events, and a run has 4,096 events at most, so cross calls are timed over many runs of 2,048 calls each, less as many runs
-# that stop at once. At the end are the seconds of recursions 1,000 and 10,000 deep that allocate at each level.
+# It prints, for each program, turns per second of both and how many times as long the meaning takes. A cross call
+# is two events, and a run has 4,096 events at most, so cross calls are timed over many runs of 2,048 calls each,
+# less as many runs that stop at once. At the end are the seconds of recursions 1,000 and 10,000 deep that allocate
+# at each level.
 set -e
 top=$(cd "$(dirname "$0")/.." && pwd)
 program=${1:-$top/secomp}
@@ -121,7 +122,10 @@ best() {
 meaning() { "$program" meaning --turns $turns < "$1"; }
 short_runs() { for run in $(seq 100); do "$program" meaning --events "$2" < "$1" > "$work/out"; done; }
 compile() { clang -O0 -fsanitize="${2:-undefined}" -w -x c "$1" -o "$work/native"; }
-tell() { awk "BEGIN { printf \"%-7s meaning %.1f million/s  clang %.1f million/s  %.1f times as long\\n\", \"$1\", $2 / 1e6, $3 / 1e6, $3 / $2 }"; }
+tell() {
+    awk "BEGIN { printf \"%-7s meaning %.1f million/s  clang %.1f million/s  %.1f times as long\\n\",
+        \"$1\", $2 / 1e6, $3 / 1e6, $3 / $2 }"
+}
 per_second() { awk "BEGIN { print $1 / $2 }"; }
 
 "$program" meaning --turns 0 < "$work/loop" > /dev/null

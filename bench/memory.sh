@@ -1,8 +1,9 @@
 #!/bin/sh
-# Prints the most memory that `secomp run` and `secomp exec` have on a program of 32 compartments with the largest globals,
-# 458,752 bytes each, of which each compartment but `Main` stores in the first N pages: 0, 1, 16 and all 112.
-# Usage: bench/memory.sh [PROGRAM]. PROGRAM is a built secomp (by default what ./secomp runs). An
-# unproved build has other figures. `compile` shows what the image by itself takes, which `exec` has beside the machine's pages.
+# Prints the most memory that `secomp run` and `secomp exec` have on a program of 32 compartments with the largest
+# globals, 458,752 bytes each, of which each compartment but `Main` stores in the first N pages: 0, 1, 16 and all
+# 112.
+# Usage: bench/memory.sh [PROGRAM]. PROGRAM is a built secomp (by default what ./secomp runs). An unproved build has
+# other figures. `compile` shows what the image by itself takes, which `exec` has beside the machine's pages.
 set -e
 top=$(cd "$(dirname "$0")/.." && pwd)
 program=${1:-$top/secomp}

@@ -1,14 +1,14 @@
 #!/bin/sh
 # Times `secomp explain --show 32` on a program of 32 compartments for which the machine emits 4,096 events. Each
-# compartment commits undefined behaviour in its first call, so each one's section is replaced by a text that performs its
-# part of all events.
+# compartment commits undefined behaviour in its first call, so each one's section is replaced by a text that
+# performs its part of all events.
 # Usage: bench/replace.sh [PROGRAM [FOLDER]]. PROGRAM is a built secomp (by default what ./secomp runs).
-# FOLDER (by default a new one) gets a copy of the crates and a program over them, which is proved and built there; where it
-# has bench_replace, that program is taken.
-# It prints the seconds of the fastest of three runs and the most memory in MiB: of `run`, which replaces nothing, and of
-# `explain --show 32`, which makes 32 texts in turn, of 1 to 32 sections that are replaced, and runs the meaning of each; and
-# the bytes of both texts. Then those of one replacement by itself, by all 32 compartments, and by none, which reads and
-# runs the same and leaves the text as it is.
+# FOLDER (by default a new one) gets a copy of the crates and a program over them, which is proved and built there;
+# where it has bench_replace, that program is taken.
+# It prints the seconds of the fastest of three runs and the most memory in MiB: of `run`, which replaces nothing,
+# and of `explain --show 32`, which makes 32 texts in turn, of 1 to 32 sections that are replaced, and runs the
+# meaning of each; and the bytes of both texts. Then those of one replacement by itself, by all 32 compartments, and
+# by none, which reads and runs the same and leaves the text as it is.
 set -e
 top=$(cd "$(dirname "$0")/.." && pwd)
 program=${1:-$top/secomp}
@@ -36,7 +36,8 @@ awk 'BEGIN {
 tell() {
     name=$1; shift
     for run in 1 2 3; do
-        /usr/bin/time -f "%e %M" -o "$work/spent" "$program" "$@" --events 4096 --steps 1000000 < "$work/text.c" > "$work/told"
+        /usr/bin/time -f "%e %M" -o "$work/spent" "$program" "$@" --events 4096 --steps 1000000 \
+            < "$work/text.c" > "$work/told"
         cat "$work/spent"
     done | sort -n | head -1 | awk -v name="$name" '{ printf "%-20s %6.2f s  %6.1f MiB\n", name, $1, $2 / 1024 }'
 }
@@ -52,7 +53,8 @@ echo "$(wc -c < "$work/text.c") bytes, replaced $(wc -c < "$work/told") bytes"
 if [ ! -x "$folder/bench_replace" ]; then
     . "$top/bench/copy.sh"
     copy_crates "$folder" sc_chain second_meaning
-    echo "bench_replace: sc_event sc_types sc_compile sc_store sc_machine sc_chain second_meaning" >> "$folder/crates.txt"
+    echo "bench_replace: sc_event sc_types sc_compile sc_store sc_machine sc_chain second_meaning" \
+        >> "$folder/crates.txt"
     mkdir -p "$folder/crates/bench_replace/src"
     cp "$top/bench/replace_main.txt" "$folder/crates/bench_replace/src/main.rt"
     (cd "$folder/crates/bench_replace" && rt run < /dev/null > "$folder/log" 2>&1) || { tail "$folder/log"; exit 1; }

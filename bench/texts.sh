@@ -1,4 +1,5 @@
-# For the benchmarks of `check` and `compile`: texts of small functions, and what a command takes on one. $work is a folder.
+# For the benchmarks of `check` and `compile`: texts of small functions, and what a command takes on one. $work is a
+# folder.
 
 # a program of at most $1 bytes
 text() {
@@ -28,5 +29,6 @@ tell() {
             { cat "$work/told"; return; }
         cat "$work/spent"
     done | sort -n | head -1 | awk -v name="$name" -v bytes="$bytes" \
-        '{ printf "%8d bytes  %-10s %6.2f s  %7.2f MB/s  %6.1f MiB\n", bytes, name, $1, bytes / 1e6 / ($1 ? $1 : 0.005), $2 / 1024 }'
+        '{ printf "%8d bytes  %-10s %6.2f s  %7.2f MB/s  %6.1f MiB\n",
+            bytes, name, $1, bytes / 1e6 / ($1 ? $1 : 0.005), $2 / 1024 }'
 }
