@@ -36,7 +36,7 @@ for size in 65536 262144 1048576; do
         /usr/bin/time -f %M -o "$work/memory" "$work/crates/bench_lowering/out/bench_lowering" \
             < "$work/text" > "$work/told"
         echo "$(cat "$work/told") $(cat "$work/memory")"
-    done | sort -k3,3n | head -1 | 
+    done | sort -k3,3n | head -1 |
         awk '{ printf "%7d bytes  %7d nodes  %.4f s  %.2f million nodes/s  %d KiB\n",
             $1, $2, $3 / 1e9, $2 / $3 * 1e3, $4 }'
 done
