@@ -202,7 +202,7 @@ module _ (program : ProgramTree) (caller : Frame) (callee : Callee) (args : List
                 less x y z = omega (arith, x, y, z)
           by_turn (suc m) (Stopped end t) e le rest = elim e [ ]
 
-  emitted_turns : (crossing : Option ℕ) (mid : Seen) →
+  pub emitted_turns : (crossing : Option ℕ) (mid : Seen) →
       (emitted_call caller callee args crossing mid).turns ≡ mid.turns
   emitted_turns None mid = refl
   emitted_turns (Some index) mid = refl
@@ -335,7 +335,7 @@ module _ (program : ProgramTree) (f : Frame) (exit : Exit) where
           more a b z = omega (arith, z)
 
   module _ (before : Seen) where
-    returned_turns : (caller : Frame) (crossing : Option ℕ) (v : Option Value) (ended : Seen) →
+    pub returned_turns : (caller : Frame) (crossing : Option ℕ) (v : Option Value) (ended : Seen) →
         (emitted_return program caller f crossing v ended).turns ≡ ended.turns
     returned_turns caller None v ended = refl
     returned_turns caller (Some index) v ended = refl

@@ -58,7 +58,7 @@ pub use Rattle.sc_run.specs.Common.{Call, Callee, Event, Frame, Loop, Null, Prog
 pub use Rattle.sc_run.specs.Common.{Value, cleared, given_back}
 pub use Rattle.sc_run.specs.Prelude.{Begun, CameTo, Comes, ComesMaking, Doing, EndsAs, EntryAt, FoundAt, Passes}
 pub use Rattle.sc_run.specs.Prelude.{Completes, DoneOr, IsCall, Leads, PassesIf, Reaches, ReachesOr, Seen}
-pub use Rattle.sc_run.specs.Prelude.{WaitsFirst, call_acts}
+pub use Rattle.sc_run.specs.Prelude.{WaitsFirst, call_acts, step_of, unless_done}
 pub use Rattle.sc_run.specs.Prelude.{Standing, Stands, Steps, back_from, back_to, back_value, block_acts, block_for}
 pub use Rattle.sc_run.specs.Prelude.{bodies, body_acts, calls_in, cell_with, closes, denotations, does_now}
 pub use Rattle.sc_run.specs.Prelude.{emitted_call, emitted_return, ended_as, ended_so, entry_from, exit_of, function_in}

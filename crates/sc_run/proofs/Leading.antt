@@ -3,11 +3,13 @@ use Rattle.sc_run.proofs.Common.{Body as Body', Bor, Caller, Comes, Doing, Exit,
 use Rattle.sc_run.proofs.Common.{Loop, None, Ok, Option, Passes, Place, ProgramTree, Reaches, ReachesOr, Rest}
 use Rattle.sc_run.proofs.Common.{Seen, Some, State, Step, Steps, To, TypedExpr, TypedStmt, Value, Work, [], ap, arith}
 use Rattle.sc_run.proofs.Common.{block_acts, call_acts, ended_so, follow, here_of, in_loop, in_order, in_round}
-use Rattle.sc_run.proofs.Common.{kept_by, leave, left_at, left_by, loop_acts, next_acts, refl, result_goes, store_at}
-use Rattle.sc_run.proofs.Common.{subst, sym}
+use Rattle.sc_run.proofs.Common.{back_value, emitted_return, kept_by, leave, left_at, left_by, loop_acts, next_acts}
+use Rattle.sc_run.proofs.Common.{refl, result_goes, store_at}
+use Rattle.sc_run.proofs.Common.{Bool, false, step_of, subst, sym, true, unless_done}
 use Rattle.sc_run.proofs.Common.{length-append, suc, take, ◌-◌}
 use Rattle.sc_run.proofs.Common.{way_in, ℕ, ◌++◌, ◌+◌, ◌∙◌, ◌∷◌, ◌≡◌, ◌≤◌, ◌<◌, length, drop}
 use Rattle.sc_run.specs.declared.work.Run.{Run}
+use Rattle.sc_run.specs.declared.work.Taken.{Taken}
 use Rattle.sc_run.specs.declared.work.Position.{Position}
 use Rattle.sc_run.specs.Weights.{IsLess, block_nodes, block_weight, leaf_weight, loop_weight, place_weight}
 use Rattle.sc_run.proofs.Ahead.{no_part, passes_follow, passes_to_end, rest_at, round_left, steps_after}
@@ -19,6 +21,14 @@ use Rattle.sc_run.proofs.Coming.{usual}
 use Rattle.sc_run.specs.declared.work.Leaving.TheVariants as leaving
 use Rattle.sc_run.proofs.Common.{Go, Leave}
 use Rattle.sc_run.proofs.Looping.{steps_as, steps_later, steps_resume, steps_wait, steps_weaken}
+
+-- no step was taken where all is done
+pub none_taken : {done : Bool} (taken : Taken) → done ≡ true → unless_done done taken ≡ None
+none_taken taken is = ap (λ d. unless_done d taken) is
+
+-- else one was
+pub one_taken : {done : Bool} (taken : Taken) → done ≡ false → unless_done done taken ≡ Some (step_of taken)
+one_taken taken is = ap (λ d. unless_done d taken) is
 
 module _ {program : ProgramTree} where
   pub leads_here : {cost rest : ℕ} {seen : Seen} {work : List Work} {f : Frame} {p : Doing} → rest ≤ cost →
@@ -69,12 +79,15 @@ module _ {program : ProgramTree} where
 
   -- a call ends
   pub call_left : (f : Frame) (exit : Exit) (before : Seen) {work : List Work} {caller : Frame} (to : To)
-      (v : Option Value) {ended : Seen} → ClosedBy program f exit (Ok v) → ended ≡ left_by f before →
-      Leads program 1 before (work ++ Caller caller to None ∷ []) f (λ n s. leave exit tt s) leaf_weight ended work
-      caller
-      (λ n s. result_goes program caller to v s)
-  call_left f exit before to v is ends =
-      record { leads = λ step last ws g k. return_steps program f exit before to None v is ends refl refl k }
+      (crossing : Option ℕ) (v : Option Value) {back : Option Value} {ended emitted : Seen} →
+      ClosedBy program f exit (Ok v) → ended ≡ left_by f before → back ≡ back_value program f crossing v →
+      emitted ≡ emitted_return program caller f crossing v ended →
+      Leads program 1 before (work ++ Caller caller to crossing ∷ []) f (λ n s. leave exit tt s) leaf_weight emitted
+      work caller (λ n s. result_goes program caller to back s)
+  call_left f exit before to crossing v is ends gives emits_trace =
+      record {
+        leads = λ step last ws g k. return_steps program f exit before to crossing v is ends gives emits_trace k;
+      }
 
   pub reaches_from : {cost middle_cost rest : ℕ} {before middle : Seen} {work waits last : List Work} {f g h : Frame}
       {p q r : Doing} {later : Run} → middle.turns ≤ before.turns →
@@ -88,6 +101,14 @@ module _ {program : ProgramTree} where
         fewer = omega (arith, le, d.fewer);
         leads = leads_then to d.leads;
       }
+
+  -- a step was taken
+  pub was_taken : (o : Option Step) {step : Step} {cost : ℕ} (rest : ℕ) {before : Seen} {work : List Work}
+      (waits : List Work) {f : Frame} (g : Frame) {p : Doing} (r : Doing) (later : Run) → o ≡ Some step →
+      Steps program cost before work f p step (kept_by later.machine) later.work.items later.frame →
+      ReachesOr program o cost before work f p waits g later rest r
+  was_taken o {step} {cost} rest {before} {work} waits {f} g {p} r later is h =
+      subst (λ x. ReachesOr program x cost before work f p waits g later rest r) (sym is) h
 
   pub is_all : (o : Option Step) {cost rest : ℕ} {before : Seen} {work waits : List Work} {f g : Frame} {p r : Doing}
       {later : Run} → o ≡ None → ReachesOr program o cost before work f p waits g later rest r →

@@ -48,6 +48,11 @@ with_more comp sizes args n memory {now} place is so_far gives =
     (memory comp ++ blocks_for sizes args) memory ∙ ap (λ bs. with_blocks comp bs memory) (append_assoc (memory comp)
     (blocks_for sizes args) (block_for n _ ∷ []) ∙ ap (λ bs. memory comp ++ bs) (sym (blocks_more sizes args n)))
 
+-- there are none where their number is 0
+pub none_among : {A : Type 0} (xs : List A) {b : Bool} → b ≡ (length xs == 0) → b ≡ true → length xs ≤ 0
+none_among [] is empty = omega arith
+none_among (x ∷ xs) is empty = grind arith
+
 module _ (structs : List TypedStruct) (here : Here) (params : ℕ) where
   -- the initialisers, from a local on
   abbrev pub inits_from : List TypedLocal → ℕ → Acts

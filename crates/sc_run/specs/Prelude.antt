@@ -15,7 +15,8 @@ pub use Rattle.sc_run.specs.Finding.{EntryAt, FoundAt}
 pub use Rattle.sc_run.specs.Resume.{Completes, DoneOr, IsCall, Leads, Reaches, ReachesOr, call_acts}
 pub use Rattle.sc_run.specs.Resume.{Advances, EndsAs, Standing, Stands, Steps, back_to, block_acts, bodies, calls_in}
 pub use Rattle.sc_run.specs.Resume.{closes, count_way_in, denotations, does_now, exit_of, function_in, loop_acts}
-pub use Rattle.sc_run.specs.Resume.{next_acts, part_acts, result_goes, resume, returned, stmt_acts, way_in}
+pub use Rattle.sc_run.specs.Resume.{next_acts, part_acts, result_goes, resume, returned, step_of, stmt_acts}
+pub use Rattle.sc_run.specs.Resume.{unless_done, way_in}
 pub use Rattle.sc_run.specs.Returning.{back_value, emitted_return, ended_as, left_by, variable_count, word_crossing}
 pub use Rattle.sc_run.specs.Seen.{Seen, kept_by, seen_of}
 pub use Rattle.sc_run.specs.Starting.{cell_with}

@@ -5,7 +5,7 @@ use Rattle.sc_run.specs.Common.{and_then, back_cross, back_own, block_does, c_ar
 use Rattle.sc_run.specs.Common.{done, follow, function_of, here_of, in_loop, in_order, leave, loop, main_name}
 use Rattle.sc_run.specs.Common.{part_does, run_step, run_to, stmt_does, stopped_at, store_result, test, ways, within}
 use Rattle.std.specs.Prelude.{◌≡◌, ℕ, suc, ◌≤◌, ◌&&◌, ◌==◌, bytes_eq, List, [], ◌∷◌, reverse, Option, None, Some}
-use Rattle.std.specs.Prelude.{is_some, map}
+use Rattle.std.specs.Prelude.{Bool, true, false, is_some, map}
 use Rattle.std.specs.Option.{option_copied}
 use Rattle.sc_core.specs.Prelude.{call, count_ways}
 use Rattle.sc_core.specs.declared.expr.TypedCall.{TypedCall}
@@ -23,8 +23,25 @@ use Rattle.sc_run.specs.declared.work.Now.TheVariants.{Run as Run', Leave}
 use Rattle.sc_run.specs.declared.work.Run.{Run as Run''}
 use Rattle.sc_run.specs.declared.work.Step.{Step}
 use Rattle.sc_run.specs.declared.work.Step.TheVariants.{Go, Stop}
+use Rattle.sc_run.specs.declared.work.StepKind.{StepKind}
+use Rattle.sc_run.specs.declared.work.StepKind.TheVariants as kind
+use Rattle.sc_run.specs.declared.work.Taken.{Taken}
 use Rattle.sc_run.specs.Seen.{Seen, seen_of, kept_by}
 use Rattle.sc_run.specs.Weights.{AreLight, StepFalls, leaf_weight, most_weight}
+
+-- a step, by its parts
+abbrev pub step_by : StepKind → Taken → Step
+step_by kind.Statements taken = Go (Run' taken.stmts)
+step_by kind.Exit taken = Go (Leave taken.exit)
+step_by kind.End taken = Stop taken.end
+
+abbrev pub step_of : Taken → Step
+step_of taken = step_by taken.kind taken
+
+-- nothing where all is done, or else the step that was taken
+abbrev pub unless_done : Bool → Taken → Option Step
+unless_done true taken = None
+unless_done false taken = Some (step_of taken)
 
 abbrev pub exit_of : Leaving → Exit
 exit_of leaving.Next = Next

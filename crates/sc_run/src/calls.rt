@@ -64,6 +64,7 @@ pub fn start<'a>(
 }
 
 // The variables of a call begin.
+#[inline(always)]
 #[tactic(auto, using(crate::proofs::Counts::beginning))]
 pub fn begin<'a>(
     machine: &mut Machine,
@@ -88,8 +89,9 @@ pub fn begin<'a>(
     })
 }
 
-// Emits a call of an export.
-fn emit_call<'a>(
+/// Emits a call of an export, where it is one.
+#[inline(always)]
+pub fn emit_call<'a>(
     machine: &mut Machine,
     frame: &Frame<'a>,
     callee: &Callee<'a>,
@@ -101,21 +103,35 @@ fn emit_call<'a>(
         (kept_by machine.old)) }
 {
     match crossing {
-        Some(index) => {
-            let words = words_of(machine.alloc, args);
-            emit_event(
-                machine,
-                Event::Call {
-                    from: *frame.scope.comp,
-                    to: *callee.comp,
-                    index,
-                    args: words,
-                },
-            )?;
-            Ok(())
-        }
+        Some(index) => emit_call_of(machine, frame, callee, args, index),
         None => Ok(()),
     }
+}
+
+// Emits a call of an export by its index.
+#[inline(never)]
+fn emit_call_of<'a>(
+    machine: &mut Machine,
+    frame: &Frame<'a>,
+    callee: &Callee<'a>,
+    args: &[Value],
+    index: u16,
+) -> Result<(), OutOfMemory>
+    requires { length args.now ≤ most_params }
+    ensures { OnOk result (kept_by machine.new ≡ emitted_call frame.now callee.now args.now (Some index)
+        (kept_by machine.old)) }
+{
+    let words = words_of(machine.alloc, args);
+    emit_event(
+        machine,
+        Event::Call {
+            from: *frame.scope.comp,
+            to: *callee.comp,
+            index,
+            args: words,
+        },
+    )?;
+    Ok(())
 }
 
 pub fn word_in(value: Value) -> u32

@@ -141,6 +141,7 @@ fn is_main(program: &Program, frame: &Frame) -> bool
 }
 
 /// How a call ends, once control left the body of its function.
+#[inline(always)]
 pub fn closed(program: &Program, frame: &Frame, exit: Leaving) -> Result<Option<Value>, RunEnd>
     ensures { (s : State) → closes program.now frame.now (record { exit = exit_of exit; carried = tt }) s ≡
         ended_as result s }
@@ -195,8 +196,8 @@ fn word_crossing(program: &Program, frame: &Frame, index: u16, value: Option<Val
     }
 }
 
-// Emits a return from an export, and gives what the caller gets.
-fn emit_return(
+/// Emits a return from an export, and gives what the caller gets.
+pub fn emit_return(
     program: &Program,
     machine: &mut Machine,
     caller: &Frame,

@@ -15,6 +15,7 @@ mod run;
 mod simple;
 mod state;
 mod steps;
+mod taken;
 mod work;
 
 pub use run::run_source;

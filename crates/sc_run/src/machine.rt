@@ -157,6 +157,7 @@ fn value_at(values: &[Value], at: usize) -> Option<Value>
 }
 
 /// The blocks of the variables of a function: parameters hold the arguments.
+#[inline(always)]
 pub fn make_blocks(blocks: &mut Blocks, callee: &Callee, args: &[Value]) -> Result<(), OutOfMemory>
     requires variables { HasFewVariables callee.now.structs.now callee.now.function.now }
     requires numbers { NumbersSuffice (memory_of blocks.old) 1 }
@@ -196,8 +197,9 @@ fn init(machine: &mut Machine, frame: &Frame, number: u32, local: &TypedLocal) -
     }
 }
 
-/// The initialisers of the locals, in order.
-pub fn init_all(machine: &mut Machine, frame: &Frame) -> Result<(), RunEnd>
+// The initialisers of locals, in order.
+#[inline(never)]
+fn init_each(machine: &mut Machine, frame: &Frame) -> Result<(), RunEnd>
     requires { length frame.now.function.now.locals < 2 ^ 32 }
     ensures { Comes (kept_by machine.old) (kept_by machine.new) (with_exit Next result)
         (all_do (inits_do c_arith frame.now.scope.structs.now
@@ -211,6 +213,20 @@ pub fn init_all(machine: &mut Machine, frame: &Frame) -> Result<(), RunEnd>
         }
     }
     Ok(())
+}
+
+/// The initialisers of the locals, in order.
+#[inline(always)]
+pub fn init_all(machine: &mut Machine, frame: &Frame) -> Result<(), RunEnd>
+    requires { length frame.now.function.now.locals < 2 ^ 32 }
+    ensures { Comes (kept_by machine.old) (kept_by machine.new) (with_exit Next result)
+        (all_do (inits_do c_arith frame.now.scope.structs.now
+        (here_of frame.now.scope) frame.now.scope.params 0 frame.now.function.now.locals) tt) }
+{
+    if frame.function.locals.as_slice().is_empty() {
+        return Ok(());
+    }
+    init_each(machine, frame)
 }
 
 /// One more event.

@@ -4,12 +4,16 @@ ghost use Rattle.sc_core.specs.Prelude.{stmt_nodes};
 ghost use Rattle.sc_run.specs.Prelude.{IsLess, Passes, PassesIf, assign, block_acts, block_nodes, c_arith, calls_in};
 ghost use Rattle.sc_run.specs.Prelude.{ended_so, exit_of, here_of, in_body, in_round, kept_by, leave, left_at};
 ghost use Rattle.sc_run.specs.Prelude.{loop_acts, next_acts, simple_does, stmt_acts, way_in};
-ghost use Rattle.std.specs.Prelude.{◌≡◌, ◌<◌, ◌≤◌, ◌∷◌, IfSome, List, MatchOption, drop, length, suc, true};
+ghost use Rattle.sc_core.specs.declared.value.Value.TheVariants.{Word};
+ghost use Rattle.sc_run.specs.Prelude.{Return};
+ghost use Rattle.std.specs.Prelude.{◌≡◌, ◌<◌, ◌≤◌, ◌∷◌, IfSome, List, MatchOption, Some, drop, length, suc, true};
 
 use crate::planned::{is_short, planned_rounds};
 use crate::state::Machine;
 use crate::work::{Frame, Leaving, Loop, Position};
-use sc_core::{Program, TypedExpr, TypedSimple, TypedSimpleKind, TypedStmt, TypedStmtKind, Want};
+use sc_core::{
+    Program, TypedExpr, TypedSimple, TypedSimpleKind, TypedStmt, TypedStmtKind, Value, Want,
+};
 use sc_run_value::is_true;
 
 // An assignment that meets no cause of blame, or nothing.
@@ -181,6 +185,42 @@ pub fn exit_at_once(
     match stmts {
         [] => Some(Leaving::Next),
         [stmt, ..] => exit_by(program, machine, frame, stmt),
+    }
+}
+
+// The word that a function returns by a statement, where it is known at once.
+#[inline(always)]
+fn word_by(program: &Program, machine: &Machine, frame: &Frame, stmt: &TypedStmt) -> Option<u32>
+    ensures { IfSome result (λ word. (rest : List TypedStmt) → Passes (kept_by machine.now) (kept_by machine.now)
+        (λ n s. block_acts program.now n frame.now (stmt.now ∷ rest) tt s)
+        (λ n s. leave (Return (Some (Word word))) tt s)) }
+{
+    match &stmt.kind {
+        TypedStmtKind::ReturnValue(value) => {
+            match sc_run_value::value_at_once(&machine.blocks, &frame.scope, value.get()) {
+                Some(Value::Word(word)) => Some(word),
+                _ => None,
+            }
+        }
+        _ => None,
+    }
+}
+
+/// The word that a function returns by the first of its last statements, where it is known at once.
+#[inline(never)]
+pub fn word_returned(
+    program: &Program,
+    machine: &Machine,
+    frame: &Frame,
+    stmts: &[TypedStmt],
+) -> Option<u32>
+    ensures { IfSome result (λ word. Passes (kept_by machine.now) (kept_by machine.now)
+        (λ n s. block_acts program.now n frame.now stmts.now tt s)
+        (λ n s. leave (Return (Some (Word word))) tt s)) }
+{
+    match stmts {
+        [] => None,
+        [stmt, ..] => word_by(program, machine, frame, stmt),
     }
 }
 

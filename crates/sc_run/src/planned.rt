@@ -91,11 +91,24 @@ fn next_plan<'a>(frame: &Frame, whole: &Loop<'a>) -> Option<Assignment<'a>>
     }
 }
 
-/// Plans of the test of a loop, and of what comes before its next round.
+// Whether the first of these statements is a call, so that none of them is done at once before it.
+fn calls_first(stmts: &[TypedStmt]) -> bool {
+    match stmts {
+        [] => false,
+        [first, ..] => match &first.kind {
+            TypedStmtKind::AssignCall { .. } => true,
+            TypedStmtKind::Call(_) => true,
+            _ => false,
+        },
+    }
+}
+
+/// Plans of the test of a loop, and of what comes before its next round; and whether its body begins with a call.
 #[derive(Clone, Copy)]
 pub struct LoopPlan<'a> {
     pub cond: Plan,
     pub next: Option<Assignment<'a>>,
+    pub calls_first: bool,
 }
 
 /// The plans of a loop.
@@ -106,6 +119,7 @@ pub fn loop_plan<'a>(frame: &Frame, whole: &Loop<'a>) -> LoopPlan<'a>
     LoopPlan {
         cond: plan_of(&frame.scope, whole.cond),
         next: next_plan(frame, whole),
+        calls_first: calls_first(whole.body),
     }
 }
 
@@ -162,6 +176,29 @@ fn done_by(
         }
     }
     stmts.len()
+}
+
+// How many of the first statements were done at once, where there is one statement.
+#[inline(always)]
+fn done_one_by(
+    program: &Program,
+    machine: &mut Machine,
+    frame: &Frame,
+    stmts: &[TypedStmt],
+    planned: &Option<Assignment>,
+) -> usize
+    requires one { length stmts.now ≡ 1 }
+    requires planned { (stmt : TypedStmt) → slice_get stmts.now 0 ≡ Some stmt →
+        IfSome planned.now (IsStmt frame.now stmt) }
+    ensures within { result ≤ length stmts.now }
+    ensures passes { Passes (kept_by machine.old) (kept_by machine.new)
+        (λ n s. block_acts program.now n frame.now stmts.now tt s)
+        (λ n s. block_acts program.now n frame.now (drop result stmts.now) tt s) }
+{
+    if is_done_by(program, machine, frame, &stmts[0], planned) {
+        return 1;
+    }
+    0
 }
 
 // A part of a `for` that makes no call, or nothing.
@@ -245,10 +282,49 @@ pub fn done_rounds_by<'a>(
         (λ n. loop_acts program.now n frame.now whole.now tt) (in_round program.now frame.now whole.now result) }
 {
     while is_begun_by(program, machine, frame, whole, &plan.cond) {
+        if plan.calls_first {
+            return Some(Position {
+                part: &[],
+                count: 0,
+            });
+        }
         if let Some(at) = done_first(program, machine, frame, whole.body) {
             return Some(at);
         }
         if !is_next_done_by(program, machine, frame, whole, &plan.next) {
+            return Some(Position {
+                part: &[],
+                count: whole.body.len(),
+            });
+        }
+    }
+    None
+}
+
+// As many rounds of a loop whose body is one statement as are done at once, as `done_rounds` says.
+#[inline(never)]
+fn rounds_of_one<'a>(
+    program: &'a Program,
+    machine: &mut Machine,
+    frame: &Frame,
+    whole: &Loop<'a>,
+) -> Option<Position<'a>>
+    requires { length whole.now.body.now ≡ 1 }
+    ensures within { IfSome result (λ at. at.count ≤ length whole.now.body.now) }
+    ensures less { IfSome result (λ at. IsLess whole.now.body.now at) }
+    ensures taken { IfSome result (λ at. machine.new.turns < machine.old.turns) }
+    ensures passes { Passes (kept_by machine.old) (kept_by machine.new)
+        (λ n. loop_acts program.now n frame.now whole.now tt) (in_round program.now frame.now whole.now result) }
+{
+    let cond = plan_of(&frame.scope, whole.cond);
+    let first = stmt_plan(frame, whole.body, 0);
+    let next = next_plan(frame, whole);
+    while is_begun_by(program, machine, frame, whole, &cond) {
+        let count = done_one_by(program, machine, frame, whole.body, &first);
+        if count < whole.body.len() {
+            return Some(Position { part: &[], count });
+        }
+        if !is_next_done_by(program, machine, frame, whole, &next) {
             return Some(Position {
                 part: &[],
                 count: whole.body.len(),
@@ -273,6 +349,9 @@ pub fn planned_rounds<'a>(
     ensures passes { Passes (kept_by machine.old) (kept_by machine.new)
         (λ n. loop_acts program.now n frame.now whole.now tt) (in_round program.now frame.now whole.now result) }
 {
+    if whole.body.len() == 1 {
+        return rounds_of_one(program, machine, frame, whole);
+    }
     let cond = plan_of(&frame.scope, whole.cond);
     let body = body_plans(frame, whole.body);
     let next = next_plan(frame, whole);

@@ -2,12 +2,14 @@
 
 ghost use Rattle.sc_run.specs.Prelude.{Advances, Completes, IsCall, IsLess, ReachesOr, WaitsFirst, block_acts};
 ghost use Rattle.sc_run.specs.Prelude.{block_weight, call_acts, follow, in_order, kept_by, left_at, place_weight};
+ghost use Rattle.sc_run.specs.Prelude.{unless_done};
 ghost use Rattle.std.specs.Prelude.{◌≡◌, ◌+◌, ◌≤◌, IfOk, IfSome, Some, length, suc};
 
 use crate::inside::made_at_once;
 use crate::plain::{done_first, done_rounds, is_next_done};
 use crate::planned::{done_rounds_by, is_next_done_by, loop_plan};
 use crate::steps::{begin_round, go_on};
+use crate::taken::{keep_end, keep_now, keep_statements, last_step};
 use crate::work::{Leaving, Loop, Made, Now, Position, Run, Step, To, Work};
 use sc_base::OutOfMemory;
 use sc_core::{Program, TypedStmt, TypedStmtKind};
@@ -39,8 +41,9 @@ fn made_before<'a>(
     run: &mut Run<'a, '_>,
     made: &Made<'a>,
     rest: &'a [TypedStmt],
-) -> Result<Option<Step<'a>>, OutOfMemory>
-    ensures { IfOk result (λ step. ReachesOr program.now step (8 + block_weight rest.now) (kept_by run.old.machine)
+) -> Result<bool, OutOfMemory>
+    ensures { IfOk result (λ done. ReachesOr program.now (unless_done done run.new.taken)
+        (8 + block_weight rest.now) (kept_by run.old.machine)
         run.old.work.items run.old.frame (λ n s. follow in_order
         (call_acts program.now run.old.frame made.now.call.now made.now.to made.now.line n s)
         (block_acts program.now n run.old.frame rest.now)) run.old.work.items run.old.frame run.new
@@ -48,11 +51,32 @@ fn made_before<'a>(
 {
     run.work.push(Work::Rest(rest))?;
     match made_at_once(program, run, made) {
-        Ok(None) => {
-            run.work.pop();
-            Ok(None)
+        Ok(done) => {
+            if done {
+                run.work.pop();
+                return Ok(true);
+            }
+            Ok(false)
         }
-        Ok(Some(step)) => Ok(Some(step)),
+        Err(error) => Err(error),
+    }
+}
+
+// Statements from a place in a part of one, a step later.
+fn left_for_later<'a>(
+    program: &'a Program,
+    run: &mut Run<'a, '_>,
+    stmts: &'a [TypedStmt],
+    at: Position<'a>,
+) -> Result<bool, OutOfMemory>
+    requires { at.count ≤ length stmts.now }
+    ensures { IfOk result (λ done. Completes program.now (unless_done done run.new.taken)
+        (place_weight stmts.now at.entry) run.old
+        (left_at program.now run.old.frame stmts.now (Some at.entry)) run.new) }
+{
+    match go_on(program, run, stmts, at) {
+        Ok(Step::Go(now)) => Ok(keep_now(&mut run.taken, now)),
+        Ok(Step::Stop(end)) => Ok(keep_end(&mut run.taken, end)),
         Err(error) => Err(error),
     }
 }
@@ -62,38 +86,39 @@ fn done_with_calls<'a>(
     program: &'a Program,
     run: &mut Run<'a, '_>,
     stmts: &'a [TypedStmt],
-) -> Result<Option<Step<'a>>, OutOfMemory>
-    ensures { IfOk result (λ step. Completes program.now step (suc (block_weight stmts.now)) run.old
+) -> Result<bool, OutOfMemory>
+    ensures { IfOk result (λ done. Completes program.now (unless_done done run.new.taken)
+        (suc (block_weight stmts.now)) run.old
         (λ n s. block_acts program.now n run.old.frame stmts.now tt s) run.new) }
 {
     let mut at = 0;
     while at < stmts.len() {
         let Some(made) = call_in(program, &stmts[at]) else {
-            return Ok(Some(Step::Go(Now::Run(&stmts[at..]))));
+            return Ok(keep_statements(&mut run.taken, &stmts[at..]));
         };
         let rest = &stmts[at + 1..];
         if rest.is_empty() {
             return made_at_once(program, run, &made);
         }
         match made_before(program, run, &made, rest) {
-            Ok(None) => {}
-            Ok(Some(step)) => return Ok(Some(step)),
+            Ok(done) => {
+                if !done {
+                    return Ok(false);
+                }
+            }
             Err(error) => return Err(error),
         }
         match done_first(program, &mut run.machine, &run.frame, rest) {
-            None => return Ok(None),
+            None => return Ok(true),
             Some(place) => {
                 if !place.part.is_empty() {
-                    return match go_on(program, run, rest, place) {
-                        Ok(step) => Ok(Some(step)),
-                        Err(error) => Err(error),
-                    };
+                    return left_for_later(program, run, rest, place);
                 }
                 at += 1 + place.count;
             }
         }
     }
-    Ok(None)
+    Ok(true)
 }
 
 // Statements from a place in them.
@@ -102,18 +127,16 @@ fn done_from<'a>(
     run: &mut Run<'a, '_>,
     stmts: &'a [TypedStmt],
     at: Position<'a>,
-) -> Result<Option<Step<'a>>, OutOfMemory>
+) -> Result<bool, OutOfMemory>
     requires { at.count ≤ length stmts.now }
-    ensures { IfOk result (λ step. Completes program.now step (place_weight stmts.now at.entry) run.old
+    ensures { IfOk result (λ done. Completes program.now (unless_done done run.new.taken)
+        (place_weight stmts.now at.entry) run.old
         (left_at program.now run.old.frame stmts.now (Some at.entry)) run.new) }
 {
     if at.part.is_empty() {
         return done_with_calls(program, run, &stmts[at.count..]);
     }
-    match go_on(program, run, stmts, at) {
-        Ok(step) => Ok(Some(step)),
-        Err(error) => Err(error),
-    }
+    left_for_later(program, run, stmts, at)
 }
 
 // Rounds of a loop that waits, by its plans, from a place in its body, as far as they are done at once.
@@ -133,8 +156,11 @@ fn rounds_by<'a>(
     let mut at = first;
     loop {
         match done_from(program, run, whole.body, at) {
-            Ok(None) => {}
-            Ok(Some(step)) => return Ok(step),
+            Ok(done) => {
+                if !done {
+                    return Ok(last_step(&run.taken));
+                }
+            }
             Err(error) => return Err(error),
         }
         if !is_next_done_by(program, &mut run.machine, &run.frame, whole, &plan.next) {
@@ -165,8 +191,11 @@ pub fn rounds<'a>(
         (left_at program.now run.old.frame whole.now.body.now (Some first.entry)) step run.new) }
 {
     match done_from(program, run, whole.body, first) {
-        Ok(None) => {}
-        Ok(Some(step)) => return Ok(step),
+        Ok(done) => {
+            if !done {
+                return Ok(last_step(&run.taken));
+            }
+        }
         Err(error) => return Err(error),
     }
     if !is_next_done(program, &mut run.machine, &run.frame, whole) {

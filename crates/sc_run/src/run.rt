@@ -11,7 +11,7 @@ use crate::leaves::leave;
 use crate::lookups::entry_callee;
 use crate::state::Machine;
 use crate::steps::run_list;
-use crate::work::{Now, Run, Step};
+use crate::work::{Leaving, Now, Run, Step, StepKind, Taken};
 use sc_base::OutOfMemory;
 use sc_core::{Program, RunEnd, SourceRun};
 use sc_event::{Entry, Trace};
@@ -105,6 +105,7 @@ pub fn run_source(
         blocks: globals,
         trace: Trace::new(alloc),
         turns,
+        most_events: events,
         inputs,
     };
     let Some(callee) = entry_callee(program, &tree.interfaces.main, Entry::Main) else {
@@ -119,6 +120,12 @@ pub fn run_source(
                 machine,
                 work,
                 frame,
+                taken: Taken {
+                    kind: StepKind::Exit,
+                    stmts: &[],
+                    exit: Leaving::Next,
+                    end: RunEnd::Ended,
+                },
             };
             let end = run_on(program, &mut run, now, events)?;
             let Run { machine, .. } = run;

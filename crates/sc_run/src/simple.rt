@@ -66,8 +66,8 @@ fn call_own<'a>(
     }
 }
 
-// Whether a call across may be made, but for its function.
-fn may_cross(program: &Program, from: CompId, to: CompId, index: u16, args: &[Value]) -> bool
+/// Whether a call across may be made, but for its function.
+pub fn may_cross(program: &Program, from: CompId, to: CompId, index: u16, args: &[Value]) -> bool
     ensures allowed { result ≡ (imports program.now.interfaces from (is_function to index) &&
         (takes program.now.interfaces to index (length args.now) && list_all is_word args.now)) }
     ensures few { IsTrue result → length args.now ≤ most_params }
@@ -171,8 +171,8 @@ fn call_output<'a>(
     Ok(hand_back(program, machine, work, frame, to, None))
 }
 
-// A call, once its arguments have their values.
-fn called<'a>(
+/// A call, once its arguments have their values.
+pub fn called<'a>(
     program: &'a Program,
     run: &mut Run<'a, '_>,
     target: &'a CallTarget,

@@ -73,12 +73,31 @@ pub enum Work<'a> {
     Caller(Frame<'a>, To<'a>, Option<u16>),
 }
 
-/// A run that has got somewhere: what it has come to, what waits, the newest last, and the call that runs.
+/// A run that has got somewhere: what it has come to, what waits, the newest last, the call that runs, and the last
+/// step that was taken where something wasn't done at once.
 #[derive(Drop)]
 pub struct Run<'a, 'i> {
     pub machine: Machine<'i>,
     pub work: Vec<Work<'a>>,
     pub frame: Frame<'a>,
+    pub taken: Taken<'a>,
+}
+
+/// What of a step that was taken counts.
+#[derive(Clone, Copy)]
+pub enum StepKind {
+    Statements,
+    Exit,
+    End,
+}
+
+/// The last step that was taken where something wasn't done at once. It stands in parts, so that it is kept in place.
+#[derive(Clone, Copy)]
+pub struct Taken<'a> {
+    pub kind: StepKind,
+    pub stmts: &'a [TypedStmt],
+    pub exit: Leaving,
+    pub end: RunEnd,
 }
 
 /// How control leaves statements.

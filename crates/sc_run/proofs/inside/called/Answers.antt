@@ -1,15 +1,17 @@
-use Rattle.sc_run.proofs.Common.{IfOk-weaker, arith}
-use Rattle.sc_run.proofs.Invoking.{own_enters, own_missing}
-use Rattle.sc_run.proofs.Leading.{onward}
+use Rattle.sc_run.proofs.Common.{unless_done}
+use Rattle.sc_run.proofs.Leading.{was_taken}
 use Rattle.sc_run.proofs.inside.called.Goals as goal
 
-pub returns-in-None : goal.returns-in-None
-returns-in-None c = own_missing c.args.program.now c.args.run.now.frame c.args.to c.args.number c.args.args.now
-    c.refusal.ensures c.in-None.ensures.found
+pub returns-in-Own : goal.returns-in-Own
+returns-in-Own c = rw c.in-Own.is c.called_inside.ensures
 
-pub returns-in-Some : goal.returns-in-Some
-returns-in-Some c = IfOk-weaker c.entered.result _ _ (λ step' h. onward step' _ _ _ _ _ (omega arith)
-    (record {
-      leads = λ step last ws g k. own_enters c.args.program.now c.args.run.now.frame
-          c.args.to c.in-Some.callee c.args.number c.args.args.now c.in-Some.ensures.found k;
-    }) h) c.entered.ensures
+pub returns-then-may_emit : goal.returns-then-may_emit
+returns-then-may_emit c = rw c.in-Cross.is c.called_across.ensures
+
+pub returns-in-Ok-Go : goal.returns-in-Ok-Go
+returns-in-Ok-Go c = was_taken (unless_done c.keep_now.result c.keep_now.new.taken) _ _ _ _ _ c.keep_now.ensures
+    (rw c.in-Ok-Go.field-0-is at c.in-Ok-Go.ensures)
+
+pub returns-in-Ok-Stop : goal.returns-in-Ok-Stop
+returns-in-Ok-Stop c = was_taken (unless_done c.keep_end.result c.keep_end.new.taken) _ _ _ _ _ c.keep_end.ensures
+    (rw c.in-Ok-Stop.field-0-is at c.in-Ok-Stop.ensures)

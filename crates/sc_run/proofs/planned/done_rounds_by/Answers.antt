@@ -1,5 +1,7 @@
-use Rattle.sc_run.proofs.Common.{Some, [], refl, ap, arith}
-use Rattle.sc_run.proofs.Ahead.{after_body, body_done, round_done, stays_so, then_passes, turns_fall, unchanged}
+use Rattle.sc_run.proofs.Common.{Some, [], refl, ap, arith, sym}
+use Rattle.sc_run.proofs.Ahead.{after_body, body_done, no_part, passes_as, round_done, stays_so, then_passes}
+use Rattle.sc_run.proofs.Ahead.{turns_fall, unchanged}
+use Rattle.sc_run.specs.declared.work.Position.{Position}
 use Rattle.sc_run.proofs.planned.done_rounds_by.Goals as goal
 
 pub loop-machine-init : goal.loop-machine-init
@@ -50,3 +52,19 @@ returns-then-not-is_next_done_by-clause-less c = omega arith
 
 pub returns-in-Some-clause-less : goal.returns-in-Some-clause-less
 returns-in-Some-clause-less c = c.in-Some.ensures.less
+
+pub returns-then-plan-clause-passes : goal.returns-then-plan-clause-passes
+returns-then-plan-clause-passes c =
+    let program = c.args.program.now in
+    let f = c.args.frame.now in
+    let l = c.args.whole.now in
+    let at : Position = record { part = record { ref_ptr = l.body.ref_ptr; now = [] }; count = 0 } in
+    body_done program f l (Some at) (then_passes c.loop-machine.invariant c.loop-machine-test.ensures.passes)
+    (passes_as (λ n s. sym (no_part program f l.body.now at refl n s)) stays_so)
+
+pub returns-then-plan-clause-taken : goal.returns-then-plan-clause-taken
+returns-then-plan-clause-taken c =
+    omega (arith, c.loop-machine.invariant.fewer, c.loop-machine-test.ensures.taken refl)
+
+pub returns-then-plan-clause-less : goal.returns-then-plan-clause-less
+returns-then-plan-clause-less c = omega arith

@@ -1,25 +1,29 @@
-use Rattle.sc_run.proofs.Common.{Body, IfOk-weaker, Some, arith, ended_so, in_round, kept_by, left_at, loop_acts}
-use Rattle.sc_run.proofs.Common.{next_acts, refl, rules, subst, ◌∙◌, Passes}
+use Rattle.sc_run.proofs.Common.{Body, IfOk-weaker, Some, ap, arith, ended_so, in_round, kept_by, left_at, loop_acts}
+use Rattle.sc_run.proofs.Common.{next_acts, refl, rules, subst, sym, unless_done, ◌∙◌, Passes}
 use Rattle.std.specs.Prelude.{vec_len}
 use Rattle.sc_run.proofs.Ahead.{steps_after, unchanged}
-use Rattle.sc_run.proofs.Leading.{another_round, before_round, is_all, is_step, last_out, leads_then, steps_there}
-use Rattle.sc_run.proofs.Leading.{then_steps}
+use Rattle.sc_run.proofs.Leading.{none_taken, another_round, before_round, is_all, is_step, last_out}
+use Rattle.sc_run.proofs.Leading.{one_taken, steps_there, then_steps}
 use Rattle.sc_run.proofs.Looping.{steps_later}
 use Rattle.sc_run.proofs.rounds.rounds.Goals as goal
 
-pub returns-in-Ok-Some : goal.returns-in-Ok-Some
-returns-in-Ok-Some c = is_step c.in-Ok-Some.field-0 _ _ _ _ _ c.in-Ok-Some.field-0-is c.in-Ok-Some.ensures
+pub returns-then-not-done : goal.returns-then-not-done
+returns-then-not-done c = is_step (unless_done c.in-Ok.done c.done_from.new.run.taken) _ _ _ _ _
+    (one_taken c.done_from.new.run.taken c.if-not-done.true ∙ ap (λ x. Some x)
+    (sym c.last_step.ensures)) c.in-Ok.ensures
 
 pub returns-then-not-is_next_done : goal.returns-then-not-is_next_done
 returns-then-not-is_next_done c = then_steps (λ f. ended_so)
-    (is_all c.in-Ok-None.field-0 c.in-Ok-None.field-0-is c.in-Ok-None.ensures)
+    (is_all (unless_done c.in-Ok.done c.done_from.new.run.taken)
+    (none_taken c.done_from.new.run.taken c.if-not-done.false) c.in-Ok.ensures)
     (steps_after (unchanged c.if-not-is_next_done.ensures) (steps_later (omega arith) (λ n s. refl)))
 
 pub returns-in-None : goal.returns-in-None
 returns-in-None c =
     let program = c.args.program.now in
     let l = c.args.whole.now in
-    let done = is_all c.in-Ok-None.field-0 c.in-Ok-None.field-0-is c.in-Ok-None.ensures in
+    let done = is_all (unless_done c.in-Ok.done c.done_from.new.run.taken)
+    (none_taken c.done_from.new.run.taken c.if-not-done.false) c.in-Ok.ensures in
     IfOk-weaker c.begin_round.result _ _ (λ step h. done.leads.leads _ _ _ _ ((before_round program
     c.args.run.now.frame l c.requires.waits.0 c.requires.waits.1
     (subst (λ f. Passes (kept_by c.done_from.new.run.machine) (kept_by c.is_next_done.new.machine)
@@ -32,14 +36,16 @@ returns-in-None c =
 
 pub rounds_by-requires-clause-waits : goal.rounds_by-requires-clause-waits
 rounds_by-requires-clause-waits c =
-    let done = is_all c.in-Ok-None.field-0 c.in-Ok-None.field-0-is c.in-Ok-None.ensures in
+    let done = is_all (unless_done c.in-Ok.done c.done_from.new.run.taken)
+    (none_taken c.done_from.new.run.taken c.if-not-done.false) c.in-Ok.ensures in
     (c.requires.waits.0, done.waiting ∙ c.requires.waits.1)
 
 pub returns-in-Some : goal.returns-in-Some
 returns-in-Some c =
     let program = c.args.program.now in
     let l = c.args.whole.now in
-    let done = is_all c.in-Ok-None.field-0 c.in-Ok-None.field-0-is c.in-Ok-None.ensures in
+    let done = is_all (unless_done c.in-Ok.done c.done_from.new.run.taken)
+    (none_taken c.done_from.new.run.taken c.if-not-done.false) c.in-Ok.ensures in
     IfOk-weaker c.rounds_by.result _ _ (λ step h. done.leads.leads _ _ _ _ ((another_round program
     c.args.run.now.frame l c.requires.waits.0 c.requires.waits.1
     (subst (λ f. Passes (kept_by c.done_from.new.run.machine) (kept_by c.is_next_done.new.machine)

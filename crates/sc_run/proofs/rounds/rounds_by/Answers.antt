@@ -1,9 +1,9 @@
-use Rattle.sc_run.proofs.Common.{Body, IfOk-weaker, Some, arith, ended_so, in_round, kept_by, left_at, loop_acts}
-use Rattle.sc_run.proofs.Common.{next_acts, refl, rules, subst, sym, way_in, ◌∙◌, Passes}
+use Rattle.sc_run.proofs.Common.{Body, IfOk-weaker, Some, ap, arith, ended_so, in_round, kept_by, left_at, loop_acts}
+use Rattle.sc_run.proofs.Common.{next_acts, refl, rules, subst, sym, unless_done, way_in, ◌∙◌, Passes}
 use Rattle.std.specs.Prelude.{vec_len}
 use Rattle.sc_run.proofs.Ahead.{steps_after, unchanged}
-use Rattle.sc_run.proofs.Leading.{another_round, before_round, is_all, is_step, last_out, leads_then, steps_there}
-use Rattle.sc_run.proofs.Leading.{then_reaches, then_steps}
+use Rattle.sc_run.proofs.Leading.{none_taken, another_round, before_round, is_all, is_step, last_out, leads_then}
+use Rattle.sc_run.proofs.Leading.{one_taken, steps_there, then_reaches, then_steps}
 use Rattle.sc_run.proofs.Looping.{steps_later}
 use Rattle.sc_run.specs.Assignments.{IsNext}
 use Rattle.sc_run_value.specs.Plans.{IsPlanOf}
@@ -11,43 +11,47 @@ use Rattle.sc_run.proofs.rounds.rounds_by.Goals as goal
 
 pub is_next_done_by-requires : goal.is_next_done_by-requires
 is_next_done_by-requires c =
-    let done = then_reaches (λ f. left_at c.args.program.now f c.args.whole.now.body.now (Some c.loop-step.at))
-    (λ f. ended_so) c.loop-step.invariant.2 (is_all c.in-Ok-None.field-0 c.in-Ok-None.field-0-is
-    c.in-Ok-None.ensures) in
+    let done = then_reaches (λ f. left_at c.args.program.now f c.args.whole.now.body.now (Some c.loop-done.at))
+    (λ f. ended_so) c.loop-done.invariant.2 (is_all (unless_done c.in-Ok.done c.done_from.new.run.taken)
+    (none_taken c.done_from.new.run.taken c.if-not-done.false) c.in-Ok.ensures) in
     subst (λ f. IsNext f c.args.whole.now c.loop_plan-plan.result.next) (sym done.frame) c.loop_plan-plan.ensures.next
 
 pub done_rounds_by-requires-clause-cond : goal.done_rounds_by-requires-clause-cond
 done_rounds_by-requires-clause-cond c =
-    let done = then_reaches (λ f. left_at c.args.program.now f c.args.whole.now.body.now (Some c.loop-step.at))
-    (λ f. ended_so) c.loop-step.invariant.2 (is_all c.in-Ok-None.field-0 c.in-Ok-None.field-0-is
-    c.in-Ok-None.ensures) in
+    let done = then_reaches (λ f. left_at c.args.program.now f c.args.whole.now.body.now (Some c.loop-done.at))
+    (λ f. ended_so) c.loop-done.invariant.2 (is_all (unless_done c.in-Ok.done c.done_from.new.run.taken)
+    (none_taken c.done_from.new.run.taken c.if-not-done.false) c.in-Ok.ensures) in
     subst (λ f. IsPlanOf c.loop_plan-plan.result.cond (way_in f c.args.whole.now.cond.now)) (sym done.frame)
     c.loop_plan-plan.ensures.cond
 
 pub done_rounds_by-requires-clause-next : goal.done_rounds_by-requires-clause-next
 done_rounds_by-requires-clause-next c =
-    let done = then_reaches (λ f. left_at c.args.program.now f c.args.whole.now.body.now (Some c.loop-step.at))
-    (λ f. ended_so) c.loop-step.invariant.2 (is_all c.in-Ok-None.field-0 c.in-Ok-None.field-0-is
-    c.in-Ok-None.ensures) in
+    let done = then_reaches (λ f. left_at c.args.program.now f c.args.whole.now.body.now (Some c.loop-done.at))
+    (λ f. ended_so) c.loop-done.invariant.2 (is_all (unless_done c.in-Ok.done c.done_from.new.run.taken)
+    (none_taken c.done_from.new.run.taken c.if-not-done.false) c.in-Ok.ensures) in
     subst (λ f. IsNext f c.args.whole.now c.loop_plan-plan.result.next) (sym done.frame) c.loop_plan-plan.ensures.next
 
-pub returns-in-Ok-Some : goal.returns-in-Ok-Some
-returns-in-Ok-Some c =
-    then_steps (λ f. left_at c.args.program.now f c.args.whole.now.body.now (Some c.loop-step.at))
-    c.loop-step.invariant.2 (is_step c.in-Ok-Some.field-0 _ _ _ _ _ c.in-Ok-Some.field-0-is c.in-Ok-Some.ensures)
+pub returns-then-not-done : goal.returns-then-not-done
+returns-then-not-done c =
+    then_steps (λ f. left_at c.args.program.now f c.args.whole.now.body.now (Some c.loop-done.at))
+    c.loop-done.invariant.2 (is_step (unless_done c.in-Ok.done c.done_from.new.run.taken) _ _ _ _ _
+    (one_taken c.done_from.new.run.taken c.if-not-done.true ∙ ap (λ x. Some x)
+    (sym c.last_step.ensures)) c.in-Ok.ensures)
 
 pub returns-then-not-is_next_done_by : goal.returns-then-not-is_next_done_by
 returns-then-not-is_next_done_by c = then_steps (λ f. ended_so)
-    (then_reaches (λ f. left_at c.args.program.now f c.args.whole.now.body.now (Some c.loop-step.at)) (λ f. ended_so)
-    c.loop-step.invariant.2 (is_all c.in-Ok-None.field-0 c.in-Ok-None.field-0-is c.in-Ok-None.ensures))
+    (then_reaches (λ f. left_at c.args.program.now f c.args.whole.now.body.now (Some c.loop-done.at)) (λ f. ended_so)
+    c.loop-done.invariant.2 (is_all (unless_done c.in-Ok.done c.done_from.new.run.taken)
+    (none_taken c.done_from.new.run.taken c.if-not-done.false) c.in-Ok.ensures))
     (steps_after (unchanged c.if-not-is_next_done_by.ensures) (steps_later (omega arith) (λ n s. refl)))
 
 pub returns-in-None : goal.returns-in-None
 returns-in-None c =
     let program = c.args.program.now in
     let l = c.args.whole.now in
-    let done = then_reaches (λ f. left_at program f l.body.now (Some c.loop-step.at)) (λ f. ended_so)
-    c.loop-step.invariant.2 (is_all c.in-Ok-None.field-0 c.in-Ok-None.field-0-is c.in-Ok-None.ensures) in
+    let done = then_reaches (λ f. left_at program f l.body.now (Some c.loop-done.at)) (λ f. ended_so)
+    c.loop-done.invariant.2 (is_all (unless_done c.in-Ok.done c.done_from.new.run.taken)
+    (none_taken c.done_from.new.run.taken c.if-not-done.false) c.in-Ok.ensures) in
     IfOk-weaker c.begin_round.result _ _ (λ step h. done.leads.leads _ _ _ _ ((before_round program
     c.args.run.now.frame l c.requires.waits.0 c.requires.waits.1
     (subst (λ f. Passes (kept_by c.done_from.new.run.machine) (kept_by c.is_next_done_by.new.machine)
@@ -58,12 +62,13 @@ returns-in-None c =
     (last_out c.requires.waits.0 (Body l) (vec_len c.done_from.new.run.work) (done.waiting ∙ c.requires.waits.1)
     c.pop.ensures.rest (search (rules, arith))) done.frame h))) c.begin_round.ensures
 
-pub loop-step-preserved : goal.loop-step-preserved
-loop-step-preserved c =
+pub loop-done-preserved : goal.loop-done-preserved
+loop-done-preserved c =
     let program = c.args.program.now in
     let l = c.args.whole.now in
-    let done = then_reaches (λ f. left_at program f l.body.now (Some c.loop-step.at)) (λ f. ended_so)
-    c.loop-step.invariant.2 (is_all c.in-Ok-None.field-0 c.in-Ok-None.field-0-is c.in-Ok-None.ensures) in (
+    let done = then_reaches (λ f. left_at program f l.body.now (Some c.loop-done.at)) (λ f. ended_so)
+    c.loop-done.invariant.2 (is_all (unless_done c.in-Ok.done c.done_from.new.run.taken)
+    (none_taken c.done_from.new.run.taken c.if-not-done.false) c.in-Ok.ensures) in (
       c.in-Some.ensures.within,
       c.in-Some.ensures.less,
       record {

@@ -1,6 +1,6 @@
 use Rattle.sc_run.proofs.Common.{here_of, kept_by}
 use Rattle.sc_run.proofs.Making.{Started}
-use Rattle.sc_run.proofs.machine.init_all.Given as goal
+use Rattle.sc_run.proofs.machine.init_each.Given as goal
 
 abbrev pub invariant-loop-at : goal.invariant-loop-at
 invariant-loop-at l =
