@@ -4,7 +4,7 @@ ghost use Rattle.rv_code.specs.Prelude.{HasWord, IsBranchOffset, IsImmediate, Is
 ghost use Rattle.rv_code.specs.Prelude.{decoded, fence_in, funct3_of, funct7_of, i_imm_of, j_imm_of, jalr_in, load_in};
 ghost use Rattle.rv_code.specs.Prelude.{op_imm_in, op_in, rd_of, rs1_of, rs2_of, s_imm_of, shift_in, signed, store_in};
 ghost use Rattle.rv_code.specs.Prelude.{system_in, u_imm_of};
-ghost use Rattle.std.specs.Prelude.{◌≡◌, ◌*◌, ◌/◌, ◌%◌, ◌^◌, ◌<◌, IfSome, IsNone};
+ghost use Rattle.std.specs.Prelude.{◌≡◌, ◌+◌, ◌*◌, ◌/◌, ◌%◌, ◌^◌, ◌<◌, IfSome, IsNone};
 
 use crate::field::{BranchOffset, Immediate, JumpOffset, Reg, ShiftAmount, UpperImmediate};
 use crate::instr::{BranchOp, Instr, LoadOp, OpImmOp, OpOp, ShiftOp, StoreOp, UpperOp};
@@ -84,13 +84,9 @@ fn jalr(word: u32) -> Option<Instr>
 fn branch(word: u32) -> Option<Instr>
     ensures { result ≡ branch_in word }
 {
+    let (rs1, rs2, imm) = (rs1(word), rs2(word), b_imm(word));
     let op = BranchOp::from_funct3(funct3(word))?;
-    Some(Instr::Branch {
-        op,
-        rs1: rs1(word),
-        rs2: rs2(word),
-        imm: b_imm(word),
-    })
+    Some(Instr::Branch { op, rs1, rs2, imm })
 }
 
 #[inline(always)]
@@ -98,13 +94,9 @@ fn branch(word: u32) -> Option<Instr>
 fn load(word: u32) -> Option<Instr>
     ensures { result ≡ load_in word }
 {
+    let (rd, rs1, imm) = (rd(word), rs1(word), i_imm(word));
     let op = LoadOp::from_funct3(funct3(word))?;
-    Some(Instr::Load {
-        op,
-        rd: rd(word),
-        rs1: rs1(word),
-        imm: i_imm(word),
-    })
+    Some(Instr::Load { op, rd, rs1, imm })
 }
 
 #[inline(always)]
@@ -112,13 +104,9 @@ fn load(word: u32) -> Option<Instr>
 fn store(word: u32) -> Option<Instr>
     ensures { result ≡ store_in word }
 {
+    let (rs1, rs2, imm) = (rs1(word), rs2(word), s_imm(word));
     let op = StoreOp::from_funct3(funct3(word))?;
-    Some(Instr::Store {
-        op,
-        rs1: rs1(word),
-        rs2: rs2(word),
-        imm: s_imm(word),
-    })
+    Some(Instr::Store { op, rs1, rs2, imm })
 }
 
 #[inline(always)]
@@ -156,13 +144,9 @@ fn shift(word: u32) -> Option<Instr>
 fn op(word: u32) -> Option<Instr>
     ensures { result ≡ op_in word }
 {
+    let (rd, rs1, rs2) = (rd(word), rs1(word), rs2(word));
     let op = OpOp::from_codes(funct7(word), funct3(word))?;
-    Some(Instr::Op {
-        op,
-        rd: rd(word),
-        rs1: rs1(word),
-        rs2: rs2(word),
-    })
+    Some(Instr::Op { op, rd, rs1, rs2 })
 }
 
 #[inline(always)]
@@ -259,34 +243,40 @@ fn immediate(bits: u32) -> Immediate
     requires { bits < 2 ^ 12 }
     ensures { result ≡ signed (2 ^ 11) bits }
 {
-    Immediate::new(sign_extended(bits, 1 << 11)).unwrap()
+    Immediate::new(signed_12(bits)).unwrap()
+}
+
+/// The number of these 12 bits in two's complement, without a branch.
+fn signed_12(bits: u32) -> i32
+    requires { bits < 2 ^ 12 }
+    ensures { result ≡ signed (2 ^ 11) bits }
+{
+    ((bits + 2048) % 4096) as i32 - 2048
 }
 
 fn b_imm(word: u32) -> BranchOffset
     ensures { result ≡ b_imm_of word }
 {
-    let high = ((word >> 31) << 12) + (((word >> 7) % 2) << 11);
-    let low = (((word >> 25) % 64) << 5) + 2 * ((word >> 8) % 16);
-    BranchOffset::new(sign_extended(high + low, 1 << 12)).unwrap()
+    let low = (((word >> 7) % 2) << 11) + (((word >> 25) % 64) << 5) + 2 * ((word >> 8) % 16);
+    BranchOffset::new(sign_extended(low, word >> 31, 1 << 12)).unwrap()
 }
 
 fn j_imm(word: u32) -> JumpOffset
     ensures { result ≡ j_imm_of word }
 {
-    let high = ((word >> 31) << 20) + (((word >> 12) % 256) << 12);
-    let low = (((word >> 20) % 2) << 11) + 2 * ((word >> 21) % 1024);
-    JumpOffset::new(sign_extended(high + low, 1 << 20)).unwrap()
+    let low = (((word >> 12) % 256) << 12) + (((word >> 20) % 2) << 11) + 2 * ((word >> 21) % 1024);
+    JumpOffset::new(sign_extended(low, word >> 31, 1 << 20)).unwrap()
 }
 
-/// The number of these bits in two's complement, where `sign` is the value of the highest.
-fn sign_extended(bits: u32, sign: u32) -> i32
-    requires sign { sign < 2 ^ 30 }
-    requires bits { bits < 2 * sign }
-    ensures { result ≡ signed sign bits }
+/// The number of these bits in two's complement, with one above them that is the sign and has the value `weight`.
+fn sign_extended(low: u32, sign: u32, weight: u32) -> i32
+    requires sign { sign < 2 }
+    requires weight { weight < 2 ^ 30 }
+    requires low { low < weight }
+    ensures { result ≡ signed weight (weight * sign + low) }
 {
-    if bits < sign {
-        bits as i32
-    } else {
-        bits as i32 - 2 * sign as i32
+    if sign == 0 {
+        return low as i32;
     }
+    low as i32 - weight as i32
 }

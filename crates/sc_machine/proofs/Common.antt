@@ -7,10 +7,11 @@ pub use Rattle.std.proofs.Common.{slice_index, slice_index_or, slice_set, subst,
 pub use Rattle.std.proofs.Common.{zero, ℕ, ℤ, ⊎_elim, ◌%◌, ◌&&◌, ◌*◌, ◌++◌, ◌+◌, ◌-◌, ◌/◌, ◌<◌, ◌==◌, ◌^◌, ◌||◌, ◌∙◌}
 pub use Rattle.std.proofs.Common.{◌∷◌, ◌≡◌, ◌≢◌, ◌≤◌}
 pub use Rattle.std.specs.List.{list_any, slice_get}
-pub use Rattle.std.proofs.lemmas.Bool.{and_parts, cases_lt, false≢true, lt-leb}
+pub use Rattle.std.proofs.lemmas.Bool.{and_parts, cases_eq, cases_lt, false≢true, lt-leb}
 pub use Rattle.std.proofs.lemmas.List.{get_or-map, get_or_past, length-map, map-append}
 pub use Rattle.std.proofs.lemmas.List.Elements.{All-cons, All-head, All-nil, All-tail}
-pub use Rattle.std.proofs.lemmas.Option.{get_or_from_slice_get, slice_get-get_or, slice_get_cases, slice_get_within}
+pub use Rattle.std.proofs.lemmas.Option.{get_or_from_slice_get, slice_get-get_or, slice_get_cases, slice_get_past}
+pub use Rattle.std.proofs.lemmas.Option.{slice_get_within}
 pub use Rattle.sc_word.specs.Prelude.{add_word, word_of}
 pub use Rattle.sc_store.proofs.Parts.{next_there, one_there, written-apart, written-in, written-stored, written_more}
 pub use Rattle.sc_store.proofs.Parts.{written_nothing}

@@ -3,13 +3,15 @@ use Rattle.sc_machine.proofs.Common.{All, All-cons, All-head, All-nil, All-tail,
 use Rattle.sc_machine.proofs.Common.{CompPart, Filled, HasBytes, HasFewGlobals, ImageParts, IsIn, IsSome, IsWellFormed}
 use Rattle.sc_machine.proofs.Common.{List, None, Option, Some, [], all_data, ap, append-nil, append_assoc, ap₂, arith}
 use Rattle.sc_machine.proofs.Common.{byte_at, byte_of, cases_lt, comp_of_data, data_start, data_with, false}
-use Rattle.sc_machine.proofs.Common.{filled_with, get_or, get_or_past, if◌then◌else◌, is_in, length, lt-leb, map-append}
+use Rattle.sc_machine.proofs.Common.{filled_with, get_or, get_or_past, if◌then◌else◌, is_in, length, lt-leb}
 use Rattle.sc_machine.proofs.Common.{most_globals, nat_le, nat_lt, refl, regions_of, slice_get, slice_get-get_or}
 use Rattle.sc_machine.proofs.Common.{slice_index, stack_size, stack_top, stack_tops, start_memory, stretch, suc, sym}
 use Rattle.sc_machine.proofs.Common.{take, true, with_bytes, written, written-apart, written-in, written-stored}
 use Rattle.sc_machine.proofs.Common.{written_nothing, zero, zeros, zone_size, zone_start, ℕ, ⊎_elim, ◌&&◌, ◌++◌, ◌+◌}
-use Rattle.sc_machine.proofs.Common.{◌-◌, ◌<◌, ◌^◌, ◌∙◌, ◌∷◌, ◌≡◌, ◌≤◌}
+use Rattle.sc_machine.proofs.Common.{◌-◌, ◌<◌, ◌^◌, ◌||◌, ◌∙◌, ◌∷◌, ◌≡◌, ◌≤◌}
+use Rattle.sc_machine.specs.Regions.{own_regions, store_regions, zone_regions}
 use Rattle.sc_store.specs.declared.region.Region.{Region}
+use Rattle.std.proofs.lemmas.Bool.Decides.{nat_tests}
 use Rattle.std.specs.Option.{option_and_then}
 use Rattle.sc_store.proofs.Words.{in_cases, in_false, in_true}
 
@@ -83,31 +85,93 @@ ordered (comp ∷ comps) c low few from =
       ),
     )
 
-pub regions_apart : (comps : List CompPart) → All HasFewGlobals comps → AreApart (regions_of (all_data 0 comps))
-regions_apart comps few = apart_by _ 0 (ordered comps 0 0 few (omega arith))
+-- Those of the store.
+
+zone_follows : (heap : Bool) (c low : ℕ) (rest : List Region) → low ≤ zone_start c →
+    ((from : ℕ) → from ≤ data_start (suc c) → Ordered from rest) → Ordered low (zone_regions heap c ++ rest)
+zone_follows true c low rest below follows = (below, follows _ (omega arith))
+zone_follows false c low rest below follows = follows low (omega (arith, below))
+
+store_ordered : (comps : List CompPart) (c low : ℕ) → All HasFewGlobals comps → low ≤ data_start c →
+    Ordered low (store_regions c comps)
+store_ordered [] c low few from = tt
+store_ordered (comp ∷ comps) c low few from =
+    let first = All-head HasFewGlobals comp comps few in (
+      from,
+      zone_follows comp.heap c _ (store_regions (suc c) comps) (omega (arith, first))
+          (λ next below. store_ordered comps (suc c) next (All-tail HasFewGlobals comp comps few) below),
+    )
+
+pub regions_apart : (comps : List CompPart) → All HasFewGlobals comps → AreApart (store_regions 0 comps)
+regions_apart comps few = apart_by _ 0 (store_ordered comps 0 0 few (omega arith))
 
 abbrev IsBelow : Region → Type 0
 IsBelow region = region.start + region.bytes ≤ 2 ^ 32
 
-zone_below : (heap : Bool) (c : ℕ) (rest : List Filled) → c < 32 → AreBelow (regions_of rest) →
-    AreBelow (regions_of (zone_if heap c ++ rest))
-zone_below true c rest few below = All-cons IsBelow (zone c).region (regions_of rest) (omega (arith, few)) below
+zone_below : (heap : Bool) (c : ℕ) (rest : List Region) → c < 32 → AreBelow rest →
+    AreBelow (zone_regions heap c ++ rest)
+zone_below true c rest few below = All-cons IsBelow (zone c).region rest (omega (arith, few)) below
 zone_below false c rest few below = below
 
 below_from : (comps : List CompPart) (c : ℕ) → c + length comps ≤ 32 → All HasFewGlobals comps →
-    AreBelow (regions_of (all_data c comps))
+    AreBelow (store_regions c comps)
 below_from [] c count few = All-nil IsBelow
 below_from (comp ∷ comps) c count few =
     let first = All-head HasFewGlobals comp comps few in
-    let rest = regions_of (zone_if comp.heap c ++ all_data (suc c) comps) in
-    All-cons IsBelow (stack comp c).region ((globals comp c).region ∷ rest) (omega (arith, count))
-    (All-cons IsBelow (globals comp c).region rest (omega (arith, count, first))
-    (zone_below comp.heap c (all_data (suc c) comps) (omega (arith, count))
-    (below_from comps (suc c) (omega (arith, count)) (All-tail HasFewGlobals comp comps few))))
+    All-cons IsBelow (record { start = data_start c; bytes = stack_size + length comp.globals })
+    (zone_regions comp.heap c ++ store_regions (suc c) comps) (omega (arith, count, first))
+    (zone_below comp.heap c (store_regions (suc c) comps) (omega (arith, count))
+    (below_from comps (suc c) (omega (arith, count)) (All-tail HasFewGlobals comp comps few)))
 
 pub regions_below : (comps : List CompPart) → length comps ≤ 32 → All HasFewGlobals comps →
-    AreBelow (regions_of (all_data 0 comps))
+    AreBelow (store_regions 0 comps)
 regions_below comps count few = below_from comps 0 (omega (arith, count)) few
+
+-- the stack and the globals have the addresses of their region
+in_both : (low top past x : ℕ) → low ≤ top → top ≤ past → (nat_le low x && nat_lt x past) ≡
+    (nat_le low x && nat_lt x top || nat_le top x && nat_lt x past)
+in_both low top past x h k = grind (arith, nat_tests)
+
+one_of_both : (first second : Bool) (other : Option ℕ) → (if first || second then Some 0 else other) ≡
+    (if first then Some 0 else if second then Some 0 else other)
+one_of_both true second other = refl
+one_of_both false second other = refl
+
+zone_zeros : (heap : Bool) (c a : ℕ) (regions : List Region) (all : List Filled) →
+    zeros regions a ≡ zeros (regions_of all) a →
+    zeros (zone_regions heap c ++ regions) a ≡ zeros (regions_of (zone_if heap c ++ all)) a
+zone_zeros true c a regions all same = ap (λ o. if is_in (zone c).region a then Some 0 else o) same
+zone_zeros false c a regions all same = same
+
+store_zeros : (comps : List CompPart) (c a : ℕ) →
+    zeros (store_regions c comps) a ≡ zeros (regions_of (all_data c comps)) a
+store_zeros [] c a = refl
+store_zeros (comp ∷ comps) c a =
+    let past = data_start c + (stack_size + length comp.globals) in
+    let same : past ≡ stack_top c + length comp.globals = omega arith in
+    ap (λ t. if t then Some 0 else zeros (zone_regions comp.heap c ++ store_regions (suc c) comps) a)
+    (in_both (data_start c) (stack_top c) past a (omega arith) (omega arith)) ∙
+    one_of_both (nat_le (data_start c) a && nat_lt a (stack_top c)) (nat_le (stack_top c) a && nat_lt a past) _ ∙
+    ap (λ end. if nat_le (data_start c) a && nat_lt a (stack_top c) then Some 0
+    else if nat_le (stack_top c) a && nat_lt a end then Some 0
+    else zeros (zone_regions comp.heap c ++ store_regions (suc c) comps) a) same ∙
+    ap (λ o. if is_in (stack comp c).region a then Some 0 else if is_in (globals comp c).region a then Some 0 else o)
+    (zone_zeros comp.heap c a _ _ (store_zeros comps (suc c) a))
+
+pub zeros_are : (comps : List CompPart) →
+    ◌≡◌ {A = ByteMemory} (zeros (store_regions 0 comps)) (zeros (regions_of (all_data 0 comps)))
+zeros_are comps = λ i a. store_zeros comps 0 a i
+
+store_more : (comps : List CompPart) (c i n : ℕ) (comp : CompPart) → n ≡ c + i → slice_get comps i ≡ Some comp →
+    store_regions c (take (suc i) comps) ≡ store_regions c (take i comps) ++ own_regions n comp.globals comp.heap
+store_more [] c i n comp place is = let never = is in cc never
+store_more (x ∷ xs) c zero n comp place is =
+    let first : c ≡ n = omega arith in
+    let same : x ≡ comp = cc is in
+    append-nil _ ∙ ap₂ (λ k (y : CompPart). own_regions k y.globals y.heap) first same
+store_more (x ∷ xs) c (suc i) n comp place is =
+    ap (λ rest. own_regions c x.globals x.heap ++ rest) (store_more xs (suc c) i n comp (omega arith) is) ∙
+    sym (append_assoc (own_regions c x.globals x.heap) _ _)
 
 -- one stack more
 pub tops_more : (comps : List CompPart) (c i n : ℕ) → n ≡ c + i → i < length comps →
@@ -233,13 +297,11 @@ item_there : (comps : List CompPart) (i : ℕ) (comp : CompPart) → i < length 
 item_there comps i comp h is = slice_get-get_or comps i comp h ∙ ap Some (sym is)
 
 pub next_regions : (comps : List CompPart) (i : ℕ) (comp : CompPart) (regions : List Region) → i < length comps →
-    comp ≡ get_or comps i comp → regions ≡ regions_of (all_data 0 (take i comps)) →
-    regions ++ regions_of (data_with i comp.globals comp.heap) ≡ regions_of (all_data 0 (take (i + 1) comps))
+    comp ≡ get_or comps i comp → regions ≡ store_regions 0 (take i comps) →
+    regions ++ own_regions i comp.globals comp.heap ≡ store_regions 0 (take (i + 1) comps)
 next_regions comps i comp regions h item so_far =
     let more : i + 1 ≡ suc i = omega arith in
-    rw (so_far, more)
-    (sym (ap regions_of (data_more comps 0 i i comp (omega arith) (item_there comps i comp h item)) ∙
-    map-append _ (all_data 0 (take i comps)) _))
+    rw (so_far, more) (sym (store_more comps 0 i i comp (omega arith) (item_there comps i comp h item)))
 
 pub next_top : (comps : List CompPart) (i : ℕ) (tops : List ℕ) (top : ℕ) → i < length comps →
     tops ≡ stack_tops 0 (take i comps) → top ≡ stack_top i → tops ++ top ∷ [] ≡ stack_tops 0 (take (i + 1) comps)

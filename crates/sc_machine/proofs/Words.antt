@@ -1,11 +1,14 @@
 -- The code and the data of a compartment: what its words are, which accesses are allowed, and returns by a jump.
-use Rattle.sc_machine.proofs.Common.{Bool, CompPart, Filled, Goes, HasBytes, ImageParts, IsWellFormed, List}
+use Rattle.sc_machine.proofs.Common.{Bool, CompPart, Filled, Goes, HasBytes, ImageParts, IsSome, IsWellFormed, List}
 use Rattle.sc_machine.proofs.Common.{MachineState, None, OnSome, Option, Some, [], add-zero, add_word, and_parts, ap}
-use Rattle.sc_machine.proofs.Common.{ap₂, are_data, arith, byte_at, cases_lt, code_in, code_start, comp_of_data}
+use Rattle.sc_machine.proofs.Common.{ap₂, are_data, arith, byte_at, cases_eq, cases_lt, code_in, code_start}
+use Rattle.sc_machine.proofs.Common.{comp_of_data}
 use Rattle.sc_machine.proofs.Common.{data_end, data_regions, data_start, data_with, eq-eqb, execute, execute_by, false}
+use Rattle.sc_machine.proofs.Common.{false≢true}
 use Rattle.sc_machine.proofs.Common.{gate, has_heap, if◌then◌else◌, initial_globals, is_in, is_some, le-leb, length}
 use Rattle.sc_machine.proofs.Common.{list_any, lt-leb, map, most_globals, nat_le, nat_lt, ne_eqb, on_return, refl, reg}
-use Rattle.sc_machine.proofs.Common.{slice_get, slice_get_cases, slice_get_within, slice_index, stack_size, stack_top}
+use Rattle.sc_machine.proofs.Common.{slice_get, slice_get_cases, slice_get_past, slice_get_within, slice_index}
+use Rattle.sc_machine.proofs.Common.{stack_size, stack_top}
 use Rattle.sc_machine.proofs.Common.{start_memory, stretch, subst, suc, sym, true, word_at, word_of, zero, zone_start}
 use Rattle.sc_machine.proofs.Common.{ℕ, ℤ, ⊎_elim, ◌%◌, ◌&&◌, ◌*◌, ◌+◌, ◌-◌, ◌/◌, ◌<◌, ◌||◌, ◌∙◌, ◌∷◌, ◌≡◌, ◌≢◌, ◌≤◌}
 use Rattle.sc_machine.specs.Place.{IsLookedUp, IsPlace}
@@ -18,6 +21,10 @@ pub misaligned : (image : ImageParts) (c address : ℕ) → address % 4 ≢ 0 �
 unfolding word_at
 misaligned image c address h = rw (ne_eqb _ _ h) refl
 
+pub aligned : (image : ImageParts) (c address : ℕ) → IsSome (word_at image c address) → address % 4 ≡ 0
+aligned image c address some = ⊎_elim (λ even. even)
+    (λ odd. absurd (false≢true (rw (misaligned image c address odd) at some))) (cases_eq (address % 4) 0)
+
 pub below_code : (image : ImageParts) (c address : ℕ) → address % 4 ≡ 0 → address < code_start c →
     word_at image c address ≡ None
 unfolding word_at
@@ -27,6 +34,16 @@ pub in_code : (image : ImageParts) (c address : ℕ) → address % 4 ≡ 0 → c
     word_at image c address ≡ slice_get (code_in image c) ((address - code_start c) / 4)
 unfolding word_at
 in_code image c address e h = rw (eq-eqb _ _ e, le-leb _ _ h) refl
+
+-- a number that isn't beyond all code and data is that of a word
+number_inside : (from a i : ℕ) → (from ≤ a → a % 4 ≡ 0 → i ≡ (a - from) / 4) → (a < from → 536870912 ≤ i) →
+    (a % 4 ≢ 0 → 536870912 ≤ i) → i < 536870912 → (from ≤ a) × (a % 4 ≡ 0) × (i ≡ (a - from) / 4)
+number_inside from a i word before between near =
+    let high : from ≤ a = ⊎_elim (λ low. absurd (omega (arith, near, before low))) (λ above. above)
+    (cases_lt a from) in
+    let whole : a % 4 ≡ 0 = ⊎_elim (λ even. even) (λ odd. absurd (omega (arith, near, between odd)))
+    (cases_eq (a % 4) 0) in
+    (high, whole, word high whole)
 
 -- a compartment's code and globals are short
 pub short_code : (image : ImageParts) (c : ℕ) (comp : CompPart) → IsWellFormed image →
@@ -40,20 +57,34 @@ short_globals image c comp well_formed found = (well_formed.comps c comp found).
 -- the same by what was looked up
 module _ {image : ImageParts} {c : ℕ} {words : List ℕ} {code_from data_from bytes : ℕ} {zone : Bool}
     (looked : IsLookedUp image c words code_from data_from bytes zone) where
-  pub looked_code_below : (a : ℕ) → a % 4 ≡ 0 → a < code_from → word_at image c a ≡ None
-  looked_code_below a e low = below_code image c a e (rw looked.code_from_is at low)
+  pub looked_from : IsPlace image c → (code_from % 4 ≡ 0) × (code_from < 1073741824)
+  looked_from place = (
+    omega (arith, looked.code_from_is),
+    omega (arith, looked.code_from_is, place.within, place.formed.few_comps),
+  )
 
-  pub looked_word : (a : ℕ) → a % 4 ≡ 0 → code_from ≤ a → slice_get words ((a - code_from) / 4) ≡ word_at image c a
-  looked_word a e low =
-      rw (looked.words_are, looked.code_from_is) (sym (in_code image c a e (rw looked.code_from_is at low)))
+  -- by a number that is the word's, and beyond all code where there is none
+  pub looked_word : (a i : ℕ) → (code_from ≤ a → a % 4 ≡ 0 → i ≡ (a - code_from) / 4) →
+      (a < code_from → 536870912 ≤ i) → (a % 4 ≢ 0 → 536870912 ≤ i) → slice_get words i ≡ word_at image c a
+  looked_word a i word before between = ⊎_elim whole (λ odd. none (between odd) ∙ sym (misaligned image c a odd))
+      (cases_eq (a % 4) 0) where
+        none : 536870912 ≤ i → slice_get words i ≡ None
+        none far = slice_get_past words i (omega (arith, looked.few_words, far))
+
+        whole : a % 4 ≡ 0 → slice_get words i ≡ word_at image c a
+        whole e = ⊎_elim (λ low. none (before low) ∙ sym (below_code image c a e (rw looked.code_from_is at low)))
+            (λ high. rw (word high e, looked.words_are, looked.code_from_is)
+            (sym (in_code image c a e (rw looked.code_from_is at high)))) (cases_lt a code_from)
 
   -- the next address has 32 bits
-  pub looked_within : (a : ℕ) → IsPlace image c → code_from ≤ a → (found : Option ℕ) →
-      found ≡ slice_get words ((a - code_from) / 4) → OnSome found (a + 4 < 4294967296)
-  looked_within a place low None is = tt
-  looked_within a place low (Some word) is =
-      let within = slice_get_within words _ word (sym is) in
-      omega (arith, looked.few_words, looked.code_from_is, place.within, place.formed.few_comps)
+  pub looked_within : (a i : ℕ) → IsPlace image c → (code_from ≤ a → a % 4 ≡ 0 → i ≡ (a - code_from) / 4) →
+      (a < code_from → 536870912 ≤ i) → (a % 4 ≢ 0 → 536870912 ≤ i) → (found : Option ℕ) →
+      found ≡ slice_get words i → OnSome found (a + 4 < 4294967296)
+  looked_within a i place word before between None is = tt
+  looked_within a i place word before between (Some found) is =
+      let within = slice_get_within words i found (sym is) in
+      let is_one = number_inside code_from a i word before between (omega (arith, looked.few_words, within)) in
+      omega (arith, looked.few_words, looked.code_from_is, place.within, place.formed.few_comps, within, is_one)
 
 -- Jumps, by the case of their target.
 
@@ -251,6 +282,22 @@ module _ {image : ImageParts} {c : ℕ} {words : List ℕ} {code_from data_from 
         (data_end c) a (suc k) (rw looked.data_from_is at low) upto
     by false is = plain image c is a k ∙ near_range (data_start c) (past_globals image c) a (suc k)
         (rw looked.data_from_is at low) upto
+
+  pub looked_data_from : IsPlace image c → (data_from % 4 ≡ 0) × (data_from < 1073741824)
+  looked_data_from place = (
+    omega (arith, looked.data_from_is),
+    omega (arith, looked.data_from_is, place.within, place.formed.few_comps),
+  )
+
+  -- a whole word there, by its number
+  pub looked_near_word : (a i : ℕ) → (data_from ≤ a → a % 4 ≡ 0 → i ≡ (a - data_from) / 4) →
+      (a < data_from → 536870912 ≤ i) → (a % 4 ≢ 0 → 536870912 ≤ i) → i < bytes / 4 →
+      (a % 4 ≡ 0) × (are_data image c a 4 ≡ true)
+  looked_near_word a i word before between inside =
+      let is_one = number_inside data_from a i word before between (omega (arith, looked.few_bytes, inside)) in
+      let from : data_from % 4 ≡ 0 = omega (arith, looked.data_from_is) in
+      let near : a - data_from ≤ bytes - 4 = omega (arith, from, inside, is_one) in
+      (is_one.1, looked_near a 4 (omega arith) (omega arith) is_one.0 near)
 
   -- beyond them, where there is no zone
   pub looked_far : (a size : ℕ) → 0 < size → size ≤ 4 → bytes - size < a - data_from → zone ≡ false →

@@ -3,7 +3,7 @@
 #![tactic(auto, unfolding(sc_image::specs::Step::execute_by))]
 
 ghost use Rattle.std.specs.List.{HoldsAt};
-ghost use Rattle.std.specs.Prelude.{IfSome, ◌≡◌, ◌+◌, ◌*◌, ◌^◌, ◌<◌, ◌≤◌, length, OnSome, IsTrue};
+ghost use Rattle.std.specs.Prelude.{IfSome, IsTrue, OnSome, length, ◌≡◌, ◌≢◌, ◌+◌, ◌-◌, ◌*◌, ◌/◌, ◌%◌, ◌^◌, ◌<◌, ◌≤◌};
 ghost use Rattle.sc_image.specs.Layout.{are_data, code_in, data_start, has_heap, initial_globals, most_globals};
 ghost use Rattle.sc_image.specs.Layout.{stack_size, stretch, word_at};
 ghost use Rattle.sc_store.specs.Memory.{HasBytes};
@@ -104,19 +104,12 @@ impl<'a> Here<'a> {
 
     /// The word of the compartment's code at an address, if the address is that of a whole word of
     /// it.
-    #[tactic(auto, using(crate::proofs::Words::misaligned, crate::proofs::Words::looked_word))]
+    #[tactic(auto, using(crate::proofs::Words::looked_from))]
     pub fn word_at(&self, address: u32) -> Option<u32>
         ensures word { result ≡ word_at self.now.image self.now.comp address }
         ensures within { OnSome result (address + 4 < 2 ^ 32) }
     {
-        if address % 4 != 0 {
-            return None;
-        }
-        if address < self.code_from {
-            return None;
-        }
-        let index = (address - self.code_from) / 4;
-        at(self.code, index as usize).copied()
+        at(self.code, word_number(self.code_from, address) as usize).copied()
     }
 
     /// The function that begins at an address, if it was looked up at the load as one that the
@@ -128,6 +121,18 @@ impl<'a> Here<'a> {
         let callees = self.program.callees(self.comp);
         let place = place_of(callees, entry)?;
         Some(&callees[place])
+    }
+
+    /// Whether a whole word of the compartment's stack and globals begins at an address. Most accesses are to such
+    /// words, and this takes one test.
+    #[inline(always)]
+    #[tactic(auto, using(crate::proofs::Words::looked_data_from))]
+    pub(crate) fn is_near_word(&self, address: u32) -> bool
+        ensures whole { IsTrue result → address % 4 ≡ 0 }
+        ensures data { IsTrue result → IsTrue (are_data self.now.image self.now.comp address 4) }
+        ensures there { IsTrue result → HasBytes (start_memory self.now.image) address 4 }
+    {
+        word_number(self.data_from, address) < self.data_bytes / 4
     }
 
     /// Whether the `size` bytes from an address on all lie in the compartment's stack, globals and zone.
@@ -165,6 +170,20 @@ impl<'a> Here<'a> {
         }
         offset <= ZONE + ZONE_SIZE - size
     }
+}
+
+/// The number of the word at an address, of those from another address on. Where no whole word begins there, it is
+/// beyond all code. It takes no test, since each step asks for it.
+#[inline(always)]
+fn word_number(from: u32, address: u32) -> u32
+    requires whole { from % 4 ≡ 0 }
+    requires low { from < 2 ^ 30 }
+    ensures word { from ≤ address → address % 4 ≡ 0 → result ≡ (address - from) / 4 }
+    ensures before { address < from → 2 ^ 29 ≤ result }
+    ensures between { address % 4 ≢ 0 → 2 ^ 29 ≤ result }
+{
+    let offset = address.wrapping_sub(from);
+    offset / 4 + ((offset % 4) << 30)
 }
 
 /// The place of the function that begins at an address, in a list in the order of addresses.

@@ -53,19 +53,20 @@ fn jump(here: &Here<'_>, hart: &mut Hart, rd: u8, target: u32) -> Result<(), Tra
 }
 
 /// Jumps to a place of the own code, as a branch does. There is no other place to branch to.
+#[tactic(auto, unfolding(sc_image::specs::Step::execute_by), using(crate::proofs::Words::aligned))]
 fn jump_within(here: &Here<'_>, core: &mut Core, target: u32) -> Result<(), TrapReason>
     ensures outcome { (state : MachineState) → let there = comp_in here.now.comp state in
         outcome_of result (at there core.new) ≡ jump here.now.image (at there core.old) 0 target (Traps BadJump) }
     ensures trap { OnErr result (core.new ≡ core.old) }
 {
+    if here.word_at(target).is_some() {
+        core.pc = target;
+        return Ok(());
+    }
     if target % 4 != 0 {
         return Err(TrapReason::Misaligned);
     }
-    if here.word_at(target).is_none() {
-        return Err(TrapReason::BadJump);
-    }
-    core.pc = target;
-    Ok(())
+    Err(TrapReason::BadJump)
 }
 
 pub(crate) fn jal(

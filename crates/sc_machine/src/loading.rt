@@ -6,8 +6,8 @@ ghost use Rattle.sc_machine.specs.Prelude.{HasBytes, HasRoom, IsSound, stack_top
 ghost use Rattle.sc_machine.specs.Prelude.{zeros};
 ghost use Rattle.sc_store.specs.Prelude.{written};
 ghost use Rattle.std.specs.Prelude.{◌≡◌, ◌+◌, ◌<◌, ◌^◌, ◌≤◌, ◌++◌, length, vec_capacity, All, IfOk, OnOk};
-ghost use Rattle.sc_image.specs.Prelude.{data_with};
-ghost use Rattle.sc_machine.specs.Regions.{HasFewGlobals, all_data, regions_of, filled_with};
+ghost use Rattle.sc_machine.specs.Regions.{HasFewGlobals, all_data, filled_with, own_regions, regions_of};
+ghost use Rattle.sc_machine.specs.Regions.{store_regions};
 
 use crate::hart::Hart;
 use crate::zones::Zones;
@@ -78,7 +78,7 @@ pub fn start_memory<S: Store>(alloc: Global, image: &Image) -> Result<S, OutOfMe
 fn regions(alloc: Global, comps: &[CompPart]) -> Result<Vec<Region>, AllocError>
     requires count { length comps.now ≤ most_compartments }
     requires few { All HasFewGlobals comps.now }
-    ensures { IfOk result (λ regions. regions.items ≡ regions_of (all_data 0 comps.now)) }
+    ensures { IfOk result (λ regions. regions.items ≡ store_regions 0 comps.now) }
 {
     let mut regions = Vec::new(alloc);
     for (number, comp) in comps.iter().enumerate() {
@@ -87,19 +87,15 @@ fn regions(alloc: Global, comps: &[CompPart]) -> Result<Vec<Region>, AllocError>
     Ok(regions)
 }
 
-/// Adds the regions of the compartment's data: its stack, its globals, and its zone if it has a heap.
+/// Adds the regions of the compartment's data: its stack with its globals, and its zone if it has a heap.
 fn add_data(regions: &mut Vec<Region>, number: CompId, comp: &CompPart) -> Result<(), AllocError>
     requires { HasFewGlobals comp.now }
     ensures { OnOk result (regions.new.items ≡ regions.old.items ++
-        regions_of (data_with number comp.now.globals comp.now.heap)) }
+        own_regions number comp.now.globals comp.now.heap) }
 {
     regions.push(Region {
         start: data_start(number),
-        bytes: STACK_SIZE,
-    })?;
-    regions.push(Region {
-        start: stack_top(number),
-        bytes: comp.globals.as_bytes().len() as u32,
+        bytes: STACK_SIZE + comp.globals.as_bytes().len() as u32,
     })?;
     if comp.heap {
         regions.push(Region {

@@ -11,9 +11,53 @@ use sc_base::TrapReason;
 use sc_registers::Core;
 use sc_store::Store;
 
-/// Loads from an address into a register.
+/// Loads from an address into a register. Whole words, the most frequent, are loaded without a call.
 #[inline(always)]
 pub(crate) fn load<S: Store>(
+    here: &Here<'_>,
+    core: &mut Core,
+    memory: &S,
+    op: LoadOp,
+    rd: Reg,
+    address: u32,
+) -> Result<(), TrapReason>
+    requires pc { core.old.pc + 4 < 2 ^ 32 }
+    requires backed { IsBacked here.now.image (S.bytes memory.now) }
+    ensures outcome { (state : MachineState) → let there = active_in here.now.comp (S.bytes memory.now) state in
+        outcome_of result (at there core.new) ≡ load here.now.image (at there core.old) op rd address }
+    ensures trap { OnErr result (core.new ≡ core.old) }
+{
+    match op {
+        LoadOp::Lw => load_word(here, core, memory, rd, address),
+        _ => load_any(here, core, memory, op, rd, address),
+    }
+}
+
+/// Loads a whole word.
+#[inline(always)]
+fn load_word<S: Store>(
+    here: &Here<'_>,
+    core: &mut Core,
+    memory: &S,
+    rd: Reg,
+    address: u32,
+) -> Result<(), TrapReason>
+    requires pc { core.old.pc + 4 < 2 ^ 32 }
+    requires backed { IsBacked here.now.image (S.bytes memory.now) }
+    ensures outcome { (state : MachineState) → let there = active_in here.now.comp (S.bytes memory.now) state in
+        outcome_of result (at there core.new) ≡ load here.now.image (at there core.old) LoadOp.Lw rd address }
+    ensures trap { OnErr result (core.new ≡ core.old) }
+{
+    if !here.is_near_word(address) {
+        return load_any(here, core, memory, LoadOp::Lw, rd, address);
+    }
+    core.give(rd, memory.load32(address));
+    Ok(())
+}
+
+/// Loads what the operation says.
+#[inline(never)]
+fn load_any<S: Store>(
     here: &Here<'_>,
     core: &mut Core,
     memory: &S,
@@ -34,9 +78,61 @@ pub(crate) fn load<S: Store>(
     Ok(())
 }
 
-/// Stores the lowest bytes of a word at an address.
+/// Stores the lowest bytes of a word at an address. Whole words are stored without a call.
 #[inline(always)]
 pub(crate) fn store<S: Store>(
+    here: &Here<'_>,
+    core: &mut Core,
+    memory: &mut S,
+    op: StoreOp,
+    address: u32,
+    word: u32,
+) -> Result<(), TrapReason>
+    requires pc { core.old.pc + 4 < 2 ^ 32 }
+    requires backed { IsBacked here.now.image (S.bytes memory.old) }
+    ensures outcome { (state : MachineState) → outcome_of result
+        (at (active_in here.now.comp (S.bytes memory.new) state) core.new) ≡
+        store here.now.image (at (active_in here.now.comp (S.bytes memory.old) state) core.old) op address word }
+    ensures trap { OnErr result (core.new ≡ core.old) }
+    ensures memory { OnErr result (S.bytes memory.new ≡ S.bytes memory.old) }
+    ensures backed { IsBacked here.now.image (S.bytes memory.new) }
+{
+    match op {
+        StoreOp::Sw => store_word(here, core, memory, address, word),
+        _ => store_any(here, core, memory, op, address, word),
+    }
+}
+
+/// Stores a whole word.
+#[inline(always)]
+fn store_word<S: Store>(
+    here: &Here<'_>,
+    core: &mut Core,
+    memory: &mut S,
+    address: u32,
+    word: u32,
+) -> Result<(), TrapReason>
+    requires pc { core.old.pc + 4 < 2 ^ 32 }
+    requires backed { IsBacked here.now.image (S.bytes memory.old) }
+    ensures outcome { (state : MachineState) → outcome_of result
+        (at (active_in here.now.comp (S.bytes memory.new) state) core.new) ≡
+        store here.now.image (at (active_in here.now.comp (S.bytes memory.old) state) core.old)
+        StoreOp.Sw address word }
+    ensures trap { OnErr result (core.new ≡ core.old) }
+    ensures memory { OnErr result (S.bytes memory.new ≡ S.bytes memory.old) }
+    ensures backed { IsBacked here.now.image (S.bytes memory.new) }
+{
+    if !here.is_near_word(address) {
+        return store_any(here, core, memory, StoreOp::Sw, address, word);
+    }
+    memory.store32(address, word);
+    core.advance();
+    Ok(())
+}
+
+/// Stores what the operation says.
+#[inline(never)]
+fn store_any<S: Store>(
     here: &Here<'_>,
     core: &mut Core,
     memory: &mut S,

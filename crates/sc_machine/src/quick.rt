@@ -74,6 +74,7 @@ pub(crate) fn execute_quick<S: Store>(
 
 /// Jumps, if the target lies in the own code, with the address of the next instruction in a
 /// register. Otherwise nothing changes.
+#[tactic(auto, unfolding(sc_image::specs::Step::execute_by), using(crate::proofs::Words::aligned))]
 fn jump_inside(here: &Here<'_>, core: &mut Core, rd: u8, target: u32) -> bool
     requires pc { core.old.pc + 4 < 2 ^ 32 }
     requires register { IsReg rd }
@@ -82,9 +83,6 @@ fn jump_inside(here: &Here<'_>, core: &mut Core, rd: u8, target: u32) -> bool
         Goes (at there core.new) ≡ jump here.now.image (at there core.old) rd target elsewhere }
     ensures stays { result ≡ false → core.new ≡ core.old }
 {
-    if target % 4 != 0 {
-        return false;
-    }
     if here.word_at(target).is_none() {
         return false;
     }

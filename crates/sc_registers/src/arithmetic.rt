@@ -77,6 +77,7 @@ fn shifted(op: ShiftOp, a: u32, bits: u32) -> u32
     }
 }
 
+#[inline(always)]
 fn computed(op: OpOp, a: u32, b: u32) -> u32
     ensures { result ≡ op_result op a b }
 {

@@ -341,26 +341,26 @@ pushed (q ∷ rs) r a i e = ⊎_elim (λ inside.
     (pushed rs r a i (sym (ap (λ t. cond t (Some (place_in a q)) (place_of (rs ++ r ∷ []) a)) test) ∙ e)))
     (in_cases _ a)
 
-pub single_pushed : (rs : List Area) (r : Area) (p : ℕ) → AreSingle rs → ArePlaced rs p → r.first ≡ p →
+pub single_pushed : (rs : List Area) (r : Area) (p : ℕ) → AreSingle rs → ArePlaced rs p → r.first ≡ p * 4096 →
     AreSingle (rs ++ r ∷ [])
 single_pushed rs r p single placed first a b i e f = ⊎_elim (λ old. ⊎_elim (λ also. single a b i old also)
     (λ new. absurd (omega (arith, placed a i old, new.1, first))) (pushed rs r b i f)) (λ new. ⊎_elim
     (λ old. absurd (omega (arith, placed b i old, new.1, first)))
     (λ also. omega (arith, new.0.0, also.0.0, new.1, also.1)) (pushed rs r b i f)) (pushed rs r a i e)
 
-pub placed_pushed : (rs : List Area) (r : Area) (p q : ℕ) → ArePlaced rs p → r.first ≡ p → q ≡ p + pages_of r.region →
-    ArePlaced (rs ++ r ∷ []) q
+pub placed_pushed : (rs : List Area) (r : Area) (p q : ℕ) → ArePlaced rs p → r.first ≡ p * 4096 →
+    q ≡ p + pages_of r.region → ArePlaced (rs ++ r ∷ []) q
 placed_pushed rs r p q placed first more a i e = ⊎_elim (λ old. omega (arith, placed a i old, more))
     (λ new. omega (arith, new.0.0, new.0.1, new.1, first, more)) (pushed rs r a i e)
 
 -- the same, as the check writes it
 pub single_grown : (rs rs' : List Area) (r : Area) (p : ℕ) → rs' ≡ rs ++ r ∷ [] → AreSingle rs → ArePlaced rs p →
-    r.first ≡ p → AreSingle rs'
+    r.first ≡ p * 4096 → AreSingle rs'
 single_grown rs rs' r p e single placed first =
     subst (λ x. AreSingle x) (sym e) (single_pushed rs r p single placed first)
 
-pub placed_grown : (rs rs' : List Area) (r : Area) (p q : ℕ) → rs' ≡ rs ++ r ∷ [] → ArePlaced rs p → r.first ≡ p →
-    q ≡ p + pages_of r.region → ArePlaced rs' q
+pub placed_grown : (rs rs' : List Area) (r : Area) (p q : ℕ) → rs' ≡ rs ++ r ∷ [] → ArePlaced rs p →
+    r.first ≡ p * 4096 → q ≡ p + pages_of r.region → ArePlaced rs' q
 placed_grown rs rs' r p q e placed first more =
     subst (λ x. ArePlaced x q) (sym e) (placed_pushed rs r p q placed first more)
 

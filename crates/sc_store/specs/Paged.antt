@@ -17,7 +17,7 @@ regions_in rs = map (λ r. r.region) rs
 
 -- where an area has an address
 abbrev pub place_in : ℕ → Area → ℕ
-place_in a r = r.first * 4096 + (a - r.region.start)
+place_in a r = r.first + (a - r.region.start)
 
 -- the place of an address
 abbrev pub place_of : List Area → ℕ → Option ℕ

@@ -1,17 +1,18 @@
 // A region on pages.
 #![tactic(auto)]
 
-ghost use Rattle.std.specs.Prelude.{◌≡◌, ◌≤◌, ◌^◌};
+ghost use Rattle.std.specs.Prelude.{◌≡◌, ◌≤◌, ◌+◌, ◌^◌, ◌<◌};
 
 use crate::Region;
 use sc_pool::PAGE_BYTES;
 
-// The addresses of a region, and the number of its first page.
+// The addresses of a region, and the place of its first byte.
 #[derive(Clone, Copy)]
 pub(crate) struct Area {
     pub(crate) region: Region,
     pub(crate) first: usize,
-    ghost few: { first ≤ 2 ^ 32 },
+    ghost few: { first ≤ 2 ^ 44 },
+    ghost below: { region.start + region.bytes ≤ 2 ^ 32 },
 }
 
 impl Area {
@@ -30,11 +31,11 @@ impl Area {
     // Whether this region has the `size` addresses from `at` on.
     #[inline(always)]
     pub(crate) fn reaches(&self, at: u32, size: usize) -> bool
-        requires { size ≤ 4 }
+        requires some { 0 < size }
+        requires few { size ≤ 4 }
         ensures { result ≡ reaches at size self.now }
     {
-        self.region.start <= at
-            && (at - self.region.start) as usize + size <= self.region.bytes as usize
+        at.wrapping_sub(self.region.start) as usize + size <= self.region.bytes as usize
     }
 
     // The place of the byte at this address, where the places go on from page to page.
@@ -43,7 +44,7 @@ impl Area {
         requires { self.now.region.start ≤ at }
         ensures { result ≡ place_in at self.now }
     {
-        self.first * PAGE_BYTES + (at - self.region.start) as usize
+        self.first + (at - self.region.start) as usize
     }
 }
 

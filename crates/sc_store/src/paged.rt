@@ -47,7 +47,7 @@ fn laid(alloc: Global, regions: &[Region]) -> Result<(Vec<Area>, usize), AllocEr
     for region in regions {
         areas.push(Area {
             region: *region,
-            first: pages,
+            first: pages * PAGE_BYTES,
         })?;
         pages += region.pages() as usize;
     }

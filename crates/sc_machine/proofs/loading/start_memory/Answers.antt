@@ -1,5 +1,5 @@
 use Rattle.sc_machine.proofs.Common.{◌∙◌}
-use Rattle.sc_machine.proofs.Start.{all_few, starts, regions_apart, regions_below}
+use Rattle.sc_machine.proofs.Start.{all_few, starts, regions_apart, regions_below, zeros_are}
 use Rattle.sc_machine.proofs.loading.start_memory.Goals as goal
 
 pub regions-requires-clause-few : goal.regions-requires-clause-few
@@ -21,6 +21,10 @@ pub fill_all-requires-clause-few : goal.fill_all-requires-clause-few
 fill_all-requires-clause-few g c = rw (c.as_slice-comps.ensures, c.parts.ensures.parts)
     (all_few c.args.image.now c.parts.ensures.well_formed)
 
+pub fill_all-requires-clause-zeros : goal.fill_all-requires-clause-zeros
+fill_all-requires-clause-zeros g c =
+    c.in_ok-memory.ensures ∙ rw (c.deref.ensures.value, c.in_ok-regions.ensures) (zeros_are _)
+
 pub returns : goal.returns
 returns g c =
     c.fill_all.ensures ∙
@@ -31,4 +35,4 @@ returns g c =
       c.as_slice-comps.ensures,
       c.parts.ensures.parts,
     )
-    (starts c.args.image.now c.parts.ensures.well_formed)
+    (rw (zeros_are c.args.image.now.comps) (starts c.args.image.now c.parts.ensures.well_formed))

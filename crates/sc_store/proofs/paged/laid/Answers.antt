@@ -1,13 +1,20 @@
-use Rattle.sc_store.proofs.Common.{ap, arith, refl, ◌+◌, ◌∙◌}
+use Rattle.sc_store.proofs.Common.{Region, ap, arith, refl, ◌+◌, ◌^◌, ◌≤◌}
+use Rattle.std.proofs.lemmas.List.Elements.{All-get_or}
 use Rattle.sc_store.proofs.Counts.{few_so_far, pages_more, pages_so_far}
 use Rattle.sc_store.proofs.Places.{placed_grown, regions_grown, single_grown}
 use Rattle.sc_store.proofs.paged.laid.Goals as goal
 
 pub invariant_of-push : goal.invariant_of-push
 invariant_of-push c = record {
-  few = few_so_far c.args.regions.now c.loop-region.pages c.loop-region.region-index c.requires.apart
-      c.requires.below c.loop-region.invariant.count;
+  few = let pages = few_so_far c.args.regions.now c.loop-region.pages c.loop-region.region-index c.requires.apart
+      c.requires.below c.loop-region.invariant.count in omega (arith, pages);
+  below = All-get_or (λ (region : Region). region.start + region.bytes ≤ 2 ^ 32) c.args.regions.now
+      c.loop-region.region-index _ c.loop-region-test.true c.requires.below;
 }
+
+pub overflow_mul-pages : goal.overflow_mul-pages
+overflow_mul-pages c = let pages = few_so_far c.args.regions.now c.loop-region.pages c.loop-region.region-index
+    c.requires.apart c.requires.below c.loop-region.invariant.count in omega (arith, pages)
 
 pub overflow_add-pages : goal.overflow_add-pages
 overflow_add-pages c = let most = pages_so_far c.args.regions.now c.loop-region.pages c.pages.result
