@@ -54,7 +54,7 @@ fn scan(alloc: Global, order: &[Interval]) -> Result<Items<Placement>, OutOfMemo
     ensures fair { IfOk result AreFair }
     ensures known { IfOk result AreKnown }
 {
-    let mut scan = Scan::new(alloc);
+    let mut scan = Scan::new(alloc, order.len())?;
     for interval in order {
         scan.add(*interval)?;
     }

@@ -19,16 +19,17 @@ pub struct Scan {
 }
 
 impl Scan {
-    pub fn new(alloc: Global) -> Scan
-        ensures placements { result.placements ≡ [] }
-        ensures at { IsAt at_first result }
-        ensures rules { IsScan result }
+    /// No intervals, with room for some.
+    pub fn new(alloc: Global, room: usize) -> Result<Scan, OutOfMemory>
+        ensures placements { IfOk result (λ scan. scan.placements ≡ []) }
+        ensures at { IfOk result (IsAt at_first) }
+        ensures rules { IfOk result IsScan }
     {
-        Scan {
-            placements: Items::new(alloc),
+        Ok(Scan {
+            placements: Items::from_vec(Vec::with_capacity(alloc, room)?),
             registers: Registers::new(),
             slots: Slots::new(alloc),
-        }
+        })
     }
 
     // A place for the interval: a slot only where it spans a call or no register is free.

@@ -1,21 +1,14 @@
 -- What the passes give together.
 use Rattle.sc_compile.proofs.Common.{All, AreNamed, CodeTree, EmitsAll, GlobalsAreWords, ImageParts, IsCompiled}
-use Rattle.sc_compile.proofs.Common.{IsLinkable, IsWellTyped, IsWhole, List, None, ProgramTree, TacSection, all_codes}
-use Rattle.sc_compile.proofs.Common.{ap, built_image, flat_map, linked_image, program_tac, section_codes}
-use Rattle.sc_compile.proofs.Common.{subst, sym, too_large, ◌∙◌, ◌≡◌}
+use Rattle.sc_compile.proofs.Common.{IsLinkable, IsWellTyped, IsWhole, List, None, ProgramTree, all_codes, ap}
+use Rattle.sc_compile.proofs.Common.{built_image, linked_image, program_tac, subst, sym, too_large, ◌∙◌, ◌≡◌}
 use Rattle.sc_compile.proofs.Counted.{each_emits}
 use Rattle.sc_compile.proofs.Linkable.{is_linkable}
 use Rattle.sc_compile.proofs.Emitted.{compiled}
 
 module _ (program : ProgramTree) (typed : IsWellTyped program) (fits : too_large program ≡ None)
-    (sections : List TacSection) (are : sections ≡ (program_tac program).sections)
-    (emitted : All EmitsAll sections) (codes : List CodeTree) (made : codes ≡ flat_map section_codes sections) where
-  pub codes_are_all : codes ≡ all_codes (program_tac program)
-  codes_are_all = made ∙ ap (flat_map section_codes) are
-
-  emits : All EmitsAll (program_tac program).sections
-  emits = subst (All EmitsAll) are emitted
-
+    (emits : All EmitsAll (program_tac program).sections) (codes : List CodeTree)
+    (codes_are_all : codes ≡ all_codes (program_tac program)) where
   -- the codes can be linked
   pub may_link : IsLinkable program codes
   may_link =

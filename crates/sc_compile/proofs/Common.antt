@@ -70,10 +70,9 @@ pub use Rattle.sc_emit_run_laws.specs.Prelude.{IsLinked, KeepsTo, SimulatesRun, 
 pub use Rattle.sc_compile.specs.Common.{CodeTooLarge, CompileFault, ImageParts, ProgramTree, TacFnTree, TacSection}
 pub use Rattle.sc_compile.specs.Common.{TypedGlobal, TypedSection}
 pub use Rattle.sc_compile.specs.Prelude.{AreEmitted, BeginAsWords, BeginsAsWords, EachEmits, EmitsAll, EmitsOrIsBlamed}
-pub use Rattle.sc_compile.specs.Prelude.{EmitsSo, FitAll, ForwardSimulation, HasNoTests, HasParts, IsCompiled}
-pub use Rattle.sc_compile.specs.Prelude.{IsCounted, above}
-pub use Rattle.sc_compile.specs.Prelude.{all_codes, built_image, cells_in, code_size, counted_all, counted_code}
-pub use Rattle.sc_compile.specs.Prelude.{counted_data, counted_frame, counted_frames, data_size, first, faults_from}
+pub use Rattle.sc_compile.specs.Prelude.{CanBeCompiled, EmitsFrom, EmitsSo, ForwardSimulation, HasNoTests, HasParts}
+pub use Rattle.sc_compile.specs.Prelude.{IsCompiled, IsCounted, IsCountedFunction, above, all_codes, built_image}
+pub use Rattle.sc_compile.specs.Prelude.{cells_in, code_from, code_size, data_size, faults_from, first, found_in}
 pub use Rattle.sc_compile.specs.Prelude.{function_tac, program_tac, section_tac}
 pub use Rattle.sc_compile.specs.Prelude.{function_code, large_code, large_data, large_frame, large_frames}
 pub use Rattle.sc_core.specs.Prelude.{most_code, most_frame}

@@ -1,28 +1,25 @@
--- Sizes on lowered code are those of the program, no count passes a word of 64 bits, and where nothing is too large
--- each function fits.
-use Rattle.sc_compile.proofs.Common.{All, Bool, CodeTooLarge, CompileFault, EachEmits, EmitsAll, EmitsSo, FitAll}
-use Rattle.sc_compile.proofs.Common.{Fits as FitsIn, Interfaces, IsCounted, IsWellTyped, List, None, Option}
-use Rattle.sc_compile.proofs.Common.{ProgramTree, Some, TacFnTree, TacSection, TacTree, TypedFunction, TypedGlobal}
-use Rattle.sc_compile.proofs.Common.{TypedSection, TypedStruct, [], above, all_at as of_all, all_by, and_first}
-use Rattle.sc_compile.proofs.Common.{and_rest, ap, arith, callable_in, cells_in, cells_of, counted_all}
-use Rattle.sc_compile.proofs.Common.{counted_code, counted_data, counted_frame, counted_frames, decl_count}
-use Rattle.sc_compile.proofs.Common.{faults_from, few_so, first, first_at, flat_map, frame_bound, function_fits}
-use Rattle.sc_compile.proofs.Common.{functions_or_none, global_fits, large_code, large_data, large_frame}
-use Rattle.sc_compile.proofs.Common.{large_frames, leb-true, length, length-map, list_all, local_fits, local_nodes}
-use Rattle.sc_compile.proofs.Common.{lowered_function, lowered_program, lowered_section, lowered_sections, map}
+-- No count of a program passes a word of 64 bits, and where nothing is too large each function fits.
+use Rattle.sc_compile.proofs.Common.{All, Bool, CanBeCompiled, CompileFault, EachEmits, EmitsAll, EmitsSo}
+use Rattle.sc_compile.proofs.Common.{Fits as FitsIn, IsCounted, IsCountedFunction, IsWellTyped, List, None, Option}
+use Rattle.sc_compile.proofs.Common.{ProgramTree, Some, TacSection, TypedFunction, TypedGlobal}
+use Rattle.sc_compile.proofs.Common.{TypedSection, TypedStruct, [], all_at as of_all, all_by, and_first}
+use Rattle.sc_compile.proofs.Common.{and_rest, ap, arith, callable_in, cells_in, cells_of, decl_count}
+use Rattle.sc_compile.proofs.Common.{flat_map, frame_bound, function_fits, function_tac}
+use Rattle.sc_compile.proofs.Common.{functions_or_none, global_fits, large_frame}
+use Rattle.sc_compile.proofs.Common.{leb-true, length, length-map, list_all, local_fits, local_nodes, map}
 use Rattle.sc_compile.proofs.Common.{most_cells, most_frame, most_nodes, most_params, nat_le, nodes, of_section}
-use Rattle.sc_compile.proofs.Common.{option_map, params_fit, passed_fits, program_tac, refl, result_fits, scope_of}
-use Rattle.sc_compile.proofs.Common.{section_fits, slice_get, stretch, structs_fit, subst, suc, sym, too_large, total}
+use Rattle.sc_compile.proofs.Common.{params_fit, passed_fits, program_tac, refl, result_fits, scope_of}
+use Rattle.sc_compile.proofs.Common.{section_fits, slice_get, structs_fit, subst, suc, sym, too_large, total}
 use Rattle.sc_compile.proofs.Common.{true, variable_fits, variables, zero, ℕ, ◌&&◌, ◌*◌, ◌++◌, ◌+◌, ◌<◌, ◌^◌, ◌∙◌}
 use Rattle.sc_compile.proofs.Common.{◌∷◌, ◌≡◌, ◌≤◌}
 use Rattle.sc_compile.specs.Prelude.{Fits}
 use Rattle.sc_core_kind_laws.proofs.Sections.{all_at}
 use Rattle.sc_core.specs.declared.section.TypedLocal.{TypedLocal}
 use Rattle.sc_core.specs.declared.section.TypedParam.{TypedParam}
-use Rattle.sc_opt.specs.Prelude.{optimised_function, optimised_section}
 use Rattle.sc_compile.proofs.Fitting.{code_fits, frames_fit, prefix_none, rest_none, within}
-use Rattle.sc_compile.proofs.Lists.{mapped}
+use Rattle.sc_compile.proofs.Lists.{mapped, total_append}
 use Rattle.sc_lower.proofs.Beyond.{locals_few}
+use Rattle.sc_lower.proofs.Rules.{lowerable}
 
 -- LISTS
 
@@ -45,59 +42,6 @@ none_at find [] i x none is = absurd (cc)
 none_at find (y ∷ ys) zero x none is =
     let same : y ≡ x = cc in subst (λ z. find z ≡ []) same (prefix_none (find y) (flat_map find ys) none)
 none_at find (y ∷ ys) (suc i) x none is = none_at find ys i x (rest_none (find y) (flat_map find ys) none) is
-
--- THE SAME SIZES
-module _ (interfaces : Interfaces) where
-  data_same : (k : ℕ) (sections : List TypedSection) →
-      faults_from counted_data k (lowered_sections interfaces k sections) ≡ faults_from large_data k sections
-  data_same k [] = refl
-  data_same k (section ∷ sections) = ap (λ later. large_data k section ++ later) (data_same (suc k) sections)
-
-  functions_same : (k : ℕ) (section : TypedSection) (fs : List TypedFunction) →
-      flat_map (counted_frame k) (map (lowered_function interfaces k section.structs) fs)
-      ≡ flat_map (large_frame k section) fs
-  functions_same k section [] = refl
-  functions_same k section (f ∷ fs) = ap (λ later. large_frame k section f ++ later) (functions_same k section fs)
-
-  frames_same : (k : ℕ) (sections : List TypedSection) →
-      faults_from counted_frames k (lowered_sections interfaces k sections) ≡ faults_from large_frames k sections
-  frames_same k [] = refl
-  frames_same k (section ∷ sections) = λ i.
-      functions_same k section section.functions i ++ frames_same (suc k) sections i
-
-  nodes_same : (k : ℕ) (structs : List TypedStruct) (fs : List TypedFunction) →
-      total (map {A = TacFnTree} (λ f. f.nodes) (map (lowered_function interfaces k structs) fs)) ≡ total (map nodes fs)
-  nodes_same k structs [] = refl
-  nodes_same k structs (f ∷ fs) = ap (λ n. nodes f + n) (nodes_same k structs fs)
-
-  code_same : (k : ℕ) (sections : List TypedSection) →
-      faults_from counted_code k (lowered_sections interfaces k sections) ≡ faults_from large_code k sections
-  code_same k [] = refl
-  code_same k (section ∷ sections) = λ i.
-      above stretch (96 * nodes_same k section.structs section.functions i)
-      (CodeTooLarge k (96 * nodes_same k section.structs section.functions i)) ++ code_same (suc k) sections i
-
-pub counted_is : (program : ProgramTree) → counted_all (lowered_program program).sections ≡ too_large program
-counted_is program = λ i. first (data_same program.interfaces 0 program.sections i ++
-    (frames_same program.interfaces 0 program.sections i ++ code_same program.interfaces 0 program.sections i))
-
--- A SECTION OF THE CODE
-module _ (program : ProgramTree) where
-  pub record Lowered (comp : ℕ) (section : TacSection) : Type 0 where
-    pub source : TypedSection
-    pub is : slice_get program.sections comp ≡ Some source
-    pub same : lowered_section program.interfaces comp source ≡ section
-
-  lowered_by : (comp : ℕ) (section : TacSection) (o : Option TypedSection) → slice_get program.sections comp ≡ o →
-      option_map (lowered_section program.interfaces comp) o ≡ Some section → Lowered comp section
-  lowered_by comp section None is h = absurd (cc)
-  lowered_by comp section (Some source) is h = record { source = source; is = is; same = cc }
-
-  pub lowered_of : (comp : ℕ) (section : TacSection) →
-      slice_get (lowered_program program).sections comp ≡ Some section → Lowered comp section
-  lowered_of comp section h =
-      lowered_by comp section (slice_get program.sections comp) refl
-      (sym (first_at program.interfaces program.sections comp) ∙ h)
 
 -- COUNTS
 
@@ -144,7 +88,7 @@ module _ (program : ProgramTree) (typed : IsWellTyped program) (comp : ℕ) (sou
       leb-true (decl_count source) most_nodes
       (and_rest (nat_le (total (map nodes source.functions)) most_nodes) _ counts_so)
 
-  few_cells : cells_in (lowered_section program.interfaces comp source) < 2 ^ 60
+  few_cells : cells_in source < 2 ^ 60
   few_cells =
       let sizes : List ℕ = map {A = TypedGlobal} (λ g. cells_of source.structs g.ty) source.globals in
       let most : total sizes ≤ length sizes * most_cells =
@@ -188,11 +132,6 @@ module _ (program : ProgramTree) (typed : IsWellTyped program) (comp : ℕ) (sou
           mapped_at g (y ∷ ys) zero x is = let same : y ≡ x = cc in ap (λ z. Some (g z)) same
           mapped_at g (y ∷ ys) (suc n) x is = mapped_at g ys n x is
 
-    total_append : (xs ys : List ℕ) → total (xs ++ ys) ≡ total xs + total ys
-    total_append [] ys = omega arith
-    total_append (x ∷ xs) ys = let rest : total (xs ++ ys) ≡ total xs + total ys = total_append xs ys in
-        omega (arith, rest)
-
     few_objects : total (variables source.structs f) + nodes f < 2 ^ 60
     few_objects =
         let params : List ℕ = map {A = TypedParam} (λ p. cells_of source.structs p.ty) f.params in
@@ -215,19 +154,20 @@ module _ (program : ProgramTree) (typed : IsWellTyped program) (comp : ℕ) (sou
         let both : total (params ++ locals) ≡ total params + total locals = total_append params locals in
         omega (arith, of_params, of_locals, param_count, local_count, each, both, few_params, own_nodes)
 
-  counted : IsCounted (lowered_section program.interfaces comp source)
+  counted : IsCounted source
   counted = record {
     cells = few_cells;
-    objects = all_by (λ (f : TacFnTree). total f.objects + f.nodes < 2 ^ 60) _ (λ i f at.
-        let found = mapped (lowered_function program.interfaces comp source.structs) source.functions i f at in
-        subst (λ (g : TacFnTree). total g.objects + g.nodes < 2 ^ 60) found.1.1 (few_objects found.0 i found.1.0));
-    nodes = let same = nodes_same program.interfaces comp source.structs source.functions in
-        omega (arith, same, few_nodes);
+    functions = all_by (IsCountedFunction source.structs) source.functions (λ i f at. record {
+      few_params = few_params f i at;
+      few_nodes = own_nodes f i at;
+      cells = few_objects f i at;
+    });
+    nodes = omega (arith, few_nodes);
   }
 
   module _ (small : too_large program ≡ None) where
     function_fits_so : (f : TypedFunction) (number : ℕ) → slice_get source.functions number ≡ Some f →
-        Fits (lowered_function program.interfaces comp source.structs f)
+        Fits (function_tac program.interfaces comp source.structs f)
     function_fits_so f number its = record {
       code = omega (
         arith,
@@ -250,44 +190,17 @@ module _ (program : ProgramTree) (typed : IsWellTyped program) (comp : ℕ) (sou
         found (g ∷ fs) zero f is = let same : g ≡ f = cc in ap (λ h. Some (nodes h)) same
         found (g ∷ fs) (suc n) f is = found fs n f is
 
-    fit_all : FitAll (lowered_section program.interfaces comp source)
-    fit_all = all_by Fits _ (λ i f at.
-        let found = mapped (lowered_function program.interfaces comp source.structs) source.functions i f at in
-        subst Fits found.1.1 (function_fits_so found.0 i found.1.0))
+    -- so that it can be compiled from its source
+    pub can_be_compiled : All (CanBeCompiled program.interfaces comp source.structs) source.functions
+    can_be_compiled = all_by (CanBeCompiled program.interfaces comp source.structs) source.functions (λ i f at. record {
+      lowerable = lowerable program typed comp source is i f at;
+      fits = function_fits_so f i at;
+    })
 
 -- ALL SECTIONS
 module _ (program : ProgramTree) (typed : IsWellTyped program) where
-  pub are_counted : All IsCounted (lowered_program program).sections
-  are_counted = all_by IsCounted (lowered_program program).sections (λ comp section at.
-      let from = lowered_of program comp section at in
-      subst IsCounted from.same (counted program typed comp from.source from.is))
-
-  pub all_fit : too_large program ≡ None → All FitAll (lowered_program program).sections
-  all_fit small = all_by FitAll (lowered_program program).sections (λ comp section at.
-      let from = lowered_of program comp section at in
-      subst FitAll from.same (fit_all program typed comp from.source from.is small))
-
-  pub all_fit_optimised : too_large program ≡ None → All FitAll (program_tac program).sections
-  all_fit_optimised small = all_by FitAll (program_tac program).sections (λ comp section at.
-      let found = mapped optimised_section (lowered_program program).sections comp section at in
-      subst FitAll found.1.1
-      (section_fits_so found.0 (of_all FitAll (lowered_program program).sections comp found.0 (all_fit small)
-      found.1.0))) where
-        section_fits_so : (section : TacSection) → FitAll section → FitAll (optimised_section section)
-        section_fits_so section fits = all_by Fits (optimised_section section).functions (λ number f at.
-            let found = mapped optimised_function section.functions number f at in
-            let its = of_all Fits section.functions number found.0 fits found.1.0 in
-            subst Fits found.1.1 (record { code = its.code; frame = its.frame }))
-
-  pub few_sections : length (lowered_program program).sections ≤ 32
-  few_sections =
-      let few : length program.sections ≤ 32 = leb-true (length program.sections) 32 (few_so program typed) in
-      let same : length (lowered_sections program.interfaces 0 program.sections) ≡ length program.sections =
-      lengths 0 program.sections in omega (arith, few, same) where
-        lengths : (k : ℕ) (sections : List TypedSection) →
-            length (lowered_sections program.interfaces k sections) ≡ length sections
-        lengths k [] = refl
-        lengths k (section ∷ sections) = ap suc (lengths (suc k) sections)
+  pub are_counted : All IsCounted program.sections
+  are_counted = all_by IsCounted program.sections (λ comp section at. counted program typed comp section at)
 
   pub each_emits : All EmitsAll (program_tac program).sections → EachEmits program
   each_emits all comp number f at = by (slice_get (program_tac program).sections comp) refl at where
@@ -297,9 +210,3 @@ module _ (program : ProgramTree) (typed : IsWellTyped program) where
     by (Some section) is at =
         of_all EmitsSo section.functions number f
         (of_all EmitsAll (program_tac program).sections comp section all is) at
-
--- the sections of the code, by way of what it is read from
-pub sections_are : (code tree tac : TacTree) (sections : List TacSection) → sections ≡ tree.sections → tree ≡ tac →
-    tac ≡ code → sections ≡ code.sections
-sections_are code tree tac sections is read same =
-    is ∙ ap (λ (t : TacTree). t.sections) read ∙ ap (λ (t : TacTree). t.sections) same

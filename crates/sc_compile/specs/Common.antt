@@ -1,6 +1,6 @@
 -- The names from below that several definitions of this crate cite, passed on from one place. Declares nothing.
 pub use Rattle.sc_core.specs.Prelude.{Arith, c_arith, cells_of, code_bound, frame_bound, meaning, meaning_by, nodes}
-pub use Rattle.sc_core.specs.Prelude.{run_of, scripted_meaning, total, variables, wrapping}
+pub use Rattle.sc_core.specs.Prelude.{most_nodes, most_params, run_of, scripted_meaning, total, variables, wrapping}
 pub use Rattle.sc_core.specs.declared.program.ProgramTree.{ProgramTree}
 pub use Rattle.sc_core.specs.declared.section.TypedGlobal.{TypedGlobal}
 pub use Rattle.sc_core.specs.declared.section.TypedSection.{TypedSection}

@@ -1,37 +1,21 @@
--- Helping: sizes as they are counted on lowered code.
-use Rattle.sc_core.specs.Prelude.{bytes_a_node, most_code, most_frame}
-use Rattle.sc_compile.specs.Common.{CodeTooLarge, CompileFault, DataTooLarge, FrameTooLarge, TacFnTree, TacSection}
-use Rattle.sc_compile.specs.Common.{TypedGlobal, cells_of, frame_bound, most_globals, total}
-use Rattle.std.specs.Prelude.{ℕ, ◌+◌, ◌*◌, ◌^◌, ◌<◌, List, ◌++◌, map, flat_map, All, Option}
-use Rattle.sc_compile.specs.Sizes.{above, first, faults_from}
+-- Helping: sizes as they are counted.
+use Rattle.sc_compile.specs.Common.{TypedGlobal, TypedSection, cells_of, most_nodes, most_params, nodes, total}
+use Rattle.sc_compile.specs.Common.{variables}
+use Rattle.std.specs.Prelude.{ℕ, ◌+◌, ◌^◌, ◌<◌, ◌≤◌, List, length, map, All}
+use Rattle.sc_core.specs.declared.section.TypedFunction.{TypedFunction}
+use Rattle.sc_core.specs.declared.section.TypedStruct.{TypedStruct}
 
-abbrev pub cells_in : TacSection → ℕ
+abbrev pub cells_in : TypedSection → ℕ
 cells_in section = total (map {A = TypedGlobal} (λ g. cells_of section.structs g.ty) section.globals)
 
-abbrev pub nodes_in : TacSection → ℕ
-nodes_in section = total (map {A = TacFnTree} (λ f. f.nodes) section.functions)
+-- a function's counts fit their types
+pub record IsCountedFunction (structs : List TypedStruct) (f : TypedFunction) : Type 0 where
+  pub few_params : length f.params ≤ most_params
+  pub few_nodes : nodes f ≤ most_nodes
+  pub cells : total (variables structs f) + nodes f < 2 ^ 60
 
-abbrev pub counted_data : (comp : ℕ) → TacSection → List CompileFault
-counted_data comp section = above most_globals (4 * cells_in section) (DataTooLarge comp (4 * cells_in section))
-
-abbrev pub counted_frame : (comp : ℕ) → TacFnTree → List CompileFault
-counted_frame comp f =
-    above most_frame (frame_bound f.objects f.nodes) (FrameTooLarge comp f.name (frame_bound f.objects f.nodes))
-
-abbrev pub counted_frames : (comp : ℕ) → TacSection → List CompileFault
-counted_frames comp section = flat_map (counted_frame comp) section.functions
-
-abbrev pub counted_code : (comp : ℕ) → TacSection → List CompileFault
-counted_code comp section =
-    above most_code (bytes_a_node * nodes_in section) (CodeTooLarge comp (bytes_a_node * nodes_in section))
-
-abbrev pub counted_all : List TacSection → Option CompileFault
-counted_all sections =
-    first (faults_from counted_data 0 sections ++
-    (faults_from counted_frames 0 sections ++ faults_from counted_code 0 sections))
-
--- no count of a program passes what a word of 64 bits holds
-pub record IsCounted (section : TacSection) : Type 0 where
+-- no count of a section passes what a word of 64 bits holds
+pub record IsCounted (section : TypedSection) : Type 0 where
   pub cells : cells_in section < 2 ^ 60
-  pub objects : All {X = TacFnTree} (λ f. total f.objects + f.nodes < 2 ^ 60) section.functions
-  pub nodes : nodes_in section < 2 ^ 50
+  pub functions : All (IsCountedFunction section.structs) section.functions
+  pub nodes : total (map nodes section.functions) < 2 ^ 50

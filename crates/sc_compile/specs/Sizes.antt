@@ -46,8 +46,12 @@ abbrev pub first : List CompileFault → Option CompileFault
 first [] = None
 first (fault ∷ later) = Some fault
 
--- what is too large first, if anything is
+-- what of sections is too large first, if anything is
+abbrev pub found_in : List TypedSection → Option CompileFault
+found_in sections =
+    first (faults_from large_data 0 sections ++
+    (faults_from large_frames 0 sections ++ faults_from large_code 0 sections))
+
+-- and of a program
 abbrev pub too_large : ProgramTree → Option CompileFault
-too_large program =
-    first (faults_from large_data 0 program.sections ++
-    (faults_from large_frames 0 program.sections ++ faults_from large_code 0 program.sections))
+too_large program = found_in program.sections

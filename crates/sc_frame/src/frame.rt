@@ -37,7 +37,7 @@ fn lay_slots(alloc: Global, count: u32) -> Result<Offsets, OutOfMemory>
     requires { count < 8192 }
     ensures { IfOk result (λ slots. slots ≡ map (λ slot. 4 + 4 * slot) (range_with_len 0 count)) }
 {
-    let mut slots = Offsets::new(alloc);
+    let mut slots = Offsets::from_vec(Vec::with_capacity(alloc, count as usize)?);
     for slot in 0..count {
         slots.push(4 + 4 * slot)?;
     }
@@ -59,7 +59,7 @@ fn lay_objects(alloc: Global, from: u32, cells: &[u32]) -> Result<Objects, OutOf
       end = from + 4 * total cells.now;
     }) }
 {
-    let mut offsets = Offsets::new(alloc);
+    let mut offsets = Offsets::from_vec(Vec::with_capacity(alloc, cells.len())?);
     let mut end = from;
     for count in cells {
         offsets.push(end)?;

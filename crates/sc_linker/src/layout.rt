@@ -34,7 +34,7 @@ fn function_starts(alloc: Global, address: u32, codes: &[Code]) -> Result<Words,
     // No code is empty.
     ensures some { IfOk result (λ _. All {X = CodeTree} (λ code. 0 < length code.instrs) codes.now) }
 {
-    let mut functions = Words::new(alloc);
+    let mut functions = Words::from_vec(Vec::with_capacity(alloc, codes.len())?);
     let mut next = address;
     for code in codes {
         functions.push(next)?;
@@ -53,7 +53,7 @@ fn global_starts(
     requires { address + 4 * cells structs.now globals.now < 2 ^ 32 }
     ensures { IfOk result (λ all. all ≡ starts address (global_sizes structs.now globals.now)) }
 {
-    let mut all = Words::new(alloc);
+    let mut all = Words::from_vec(Vec::with_capacity(alloc, globals.len())?);
     let mut next = address;
     for global in globals {
         all.push(next)?;

@@ -76,8 +76,9 @@ pub fn intervals(alloc: Global, f: &TacFn) -> Result<Intervals, OutOfMemory>
     ensures covering { IfOk result (AreCovering (function_points f.now)) }
 {
     let walk = walked(alloc, f)?;
-    let mut list = Items::new(alloc);
-    for temp in 0..f.tree().temps {
+    let temps = f.tree().temps;
+    let mut list = Items::from_vec(Vec::with_capacity(alloc, temps as usize)?);
+    for temp in 0..temps {
         list.push(interval(&walk, temp))?;
     }
     Ok(Intervals::new(list))

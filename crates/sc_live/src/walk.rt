@@ -36,15 +36,11 @@ impl Walk {
         ensures start { IfOk result (λ walk. (walk.live ≡ []) × Holds temps walk []) }
         ensures none { IfOk result (λ walk. walk.points ≡ 0) }
     {
-        let mut marks = Marks::new(alloc);
-        for _ in 0..temps {
-            marks.push(None)?;
-        }
         Ok(Walk {
             points: 0,
             call: None,
             live: LiveSet::new(alloc),
-            marks,
+            marks: Marks::from_vec(vec![in alloc; None; temps as usize]?),
         })
     }
 

@@ -117,11 +117,11 @@ pub use Rattle.sc_lower.specs.Common.{BinaryOp, Const, Entry, Global, GlobalPlac
 pub use Rattle.sc_lower.specs.Common.{ObjectPlace, Op, Param, ProgramTree, TacStmt, TacStmt-F, Ty, TypedCall, TypedExpr}
 pub use Rattle.sc_lower.specs.Common.{TypedFunction, TypedKind-F, TypedLocal, TypedSection, TypedSimple}
 pub use Rattle.sc_lower.specs.Common.{TypedSimpleKind, TypedStmt, TypedStmtKind-F, TypedStruct, VarRef, fold-TacStmt}
-pub use Rattle.sc_lower.specs.Prelude.{AreFunctions, Forms, IsLowerable, IsOperands, KeepsBranches, KeepsMeaning}
+pub use Rattle.sc_lower.specs.Prelude.{AreFunctions, Forms, IsLowerable, KeepsBranches, KeepsMeaning}
 pub use Rattle.sc_lower.specs.Prelude.{KeepsRules, Low, Lowered, Lows, Many, Part, Parts, after, allocate_at}
 pub use Rattle.sc_lower.specs.Prelude.{allocation, and_code, assign, at_place, between_op, beyond, binary, binary_code}
 pub use Rattle.sc_lower.specs.Prelude.{block_code, body_code, both, call_beyond, call_branches, call_code, call_for}
-pub use Rattle.sc_lower.specs.Prelude.{call_statement, code_of, constant_of, count_beyond, count_branches, count_code}
+pub use Rattle.sc_lower.specs.Prelude.{call_statement, constant_of, count_beyond, count_branches, count_code}
 pub use Rattle.sc_lower.specs.Prelude.{cycle, entry_of, export_called, exports_of, expr_beyond, expr_branches, first_of}
 pub use Rattle.sc_lower.specs.Prelude.{fork, forms, fragment_of, free_value, from_first, from_one, from_two, ifs}
 pub use Rattle.sc_lower.specs.Prelude.{ifs_step, in_turn, init_beyond, init_branches, init_code, inits_code, just}

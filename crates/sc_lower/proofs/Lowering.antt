@@ -1,8 +1,8 @@
 -- What is made of a program, section by section and function by function, keeps the rules.
-use Rattle.sc_lower.proofs.Common.{AreFunctions, Interfaces, IsFunction, IsLowerable, IsProgram, IsWellTyped, List}
-use Rattle.sc_lower.proofs.Common.{ProgramTree, Some, TacFnTree, TacSection, TypedFunction, TypedSection, TypedStruct}
+use Rattle.sc_lower.proofs.Common.{AreFunctions, Interfaces, IsLowerable, IsProgram, IsWellTyped, List}
+use Rattle.sc_lower.proofs.Common.{ProgramTree, Some, TacSection, TypedFunction, TypedSection, TypedStruct}
 use Rattle.sc_lower.proofs.Common.{[], add-one, and_first, ap, append_assoc, arith as numbers, drop, drop-cons, get_or}
-use Rattle.sc_lower.proofs.Common.{leb-true, length, lowered_function, lowered_program, lowered_sections, map}
+use Rattle.sc_lower.proofs.Common.{leb-true, length, lowered_program, lowered_sections, map}
 use Rattle.sc_lower.proofs.Common.{most_compartments, nat_le, refl, slice_get, slice_get_read, subst, sym, ℕ, ◌++◌, ◌+◌}
 use Rattle.sc_lower.proofs.Common.{◌<◌, ◌∙◌, ◌∷◌, ◌≡◌, ◌≤◌}
 use Rattle.sc_lower.proofs.Rules.{lowerable}
@@ -26,11 +26,6 @@ map_next f items i item done more made there at is pushed so_far =
 
 module _ (interfaces : Interfaces) (comp : ℕ) (structs : List TypedStruct) (functions : List TypedFunction)
     (keep : AreFunctions interfaces comp structs functions) where
-  pub function_at : (i : ℕ) (f : TypedFunction) (tree : TacFnTree) → i < length functions → f ≡ get_or functions i f →
-      tree ≡ lowered_function interfaces comp structs f → IsFunction tree
-  function_at i f tree there item is =
-      subst IsFunction (sym is) (keep i f (slice_get_read functions (length functions) i f refl there item)).kept
-
   pub lowerable_at : (i : ℕ) (f : TypedFunction) → i < length functions → f ≡ get_or functions i f →
       IsLowerable interfaces comp structs f
   lowerable_at i f there item = keep i f (slice_get_read functions (length functions) i f refl there item)

@@ -1,7 +1,7 @@
 -- Worked programs: each form of place, also in one another, and calls into and out of them.
 use Rattle.sc_lower.proofs.Common.{Amp, Arrow, AssignCallLine, AssignLine, At, Call, CallLine, Cross, Done, Dot, End}
 use Rattle.sc_lower.proofs.Common.{Ended, Fork, Global, IfLine, In, Input, Interfaces, Line, List, Local, NoLine, None}
-use Rattle.sc_lower.proofs.Common.{Out, Output, Own, Param, Ret, ReturnCallLine, ReturnLine, ReturnValueLine, Shape}
+use Rattle.sc_lower.proofs.Common.{Out, Own, Param, Ret, ReturnCallLine, ReturnLine, ReturnValueLine, Shape}
 use Rattle.sc_lower.proofs.Common.{Sheet, Some, Star, Two, Ty, TypedStruct, Var, [], by_plan, c_arith, codes, false}
 use Rattle.sc_lower.proofs.Common.{fetched, give, global, global_of, int_op, int_pointer, ints, lit, local, main_with}
 use Rattle.sc_lower.proofs.Common.{output, param, plan, plus, refl, roll-TacStmt, slot, true, word, ℕ, ◌∷◌}
@@ -15,7 +15,7 @@ use Rattle.sc_tac.specs.declared.stmt.TacStmt.TheOpen as tac
 use Rattle.sc_tac.proofs.Runs.{only_main}
 use Rattle.sc_tac.proofs.Shapes.{Shape as TacShape}
 use Rattle.sc_lower.proofs.Plans.{AllEmit, lowered_is}
-use Rattle.sc_lower.proofs.Rows.{BothMean, a, move, one_op, out, pair, place, pointer_fetched, sheet, store, two_op}
+use Rattle.sc_lower.proofs.Rows.{BothMean, move, one_op, out, pair, place, pointer_fetched, sheet, store, two_op}
 
 -- `struct box { struct s p; int a[3]; };`
 abbrev pub box : TypedStruct

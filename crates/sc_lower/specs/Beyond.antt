@@ -1,4 +1,4 @@
--- Helping: how many times a tree names a local beyond the first 16777216. No function that fits does, since it has no
+-- How many times a tree names a local beyond the first 16777216. No function that fits does, since it has no
 -- more nodes.
 use Rattle.sc_lower.specs.Common.{Local, TypedCall, TypedExpr, TypedFunction, TypedKind-F, TypedLocal, TypedSimple}
 use Rattle.sc_lower.specs.Common.{TypedSimpleKind, TypedStmt, TypedStmtKind-F, VarRef, fold-TypedExpr, fold-TypedStmt}

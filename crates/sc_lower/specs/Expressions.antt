@@ -126,6 +126,16 @@ and_code dest first second = If first second (Const dest (constant.Word 0) ∷ [
 abbrev pub or_code : ℕ → ℕ → List TacStmt → TacStmt
 or_code dest first second = If first (Const dest (constant.Word 1) ∷ []) second
 
+-- `&&` and `||`, of which the second value doesn't always count
+abbrev pub is_logical : BinaryOp → Bool
+is_logical op.AndAlso = true
+is_logical op.OrElse = true
+is_logical o = false
+
+abbrev pub logical_code : BinaryOp → ℕ → ℕ → List TacStmt → TacStmt
+logical_code op.AndAlso = and_code
+logical_code o = or_code
+
 module _ (structs : List TypedStruct) where
   -- a pointer moved on or back by a number of elements; an integer of the type `index` counts them
   abbrev pub move_op : BinaryOp → (pointer index : Ty) → TacOp

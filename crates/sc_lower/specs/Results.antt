@@ -1,30 +1,30 @@
--- Helping: what lowering hands back, as the definitions have it.
-use Rattle.sc_lower.specs.Common.{Interfaces, IsFunction, Ty, TypedFunction, TypedLocal, TypedStruct, cells_of, comp_at}
-use Rattle.sc_lower.specs.Common.{most_cells, most_exports, most_nodes, most_params, nodes}
-use Rattle.std.specs.Prelude.{◌≡◌, ◌≤◌, ℕ, List, length, Some, slice_get}
+-- What lowering hands back, as the definitions have it.
+use Rattle.sc_lower.specs.Common.{Interfaces, IsFunction, TacStmt, TypedFunction, TypedLocal, TypedStruct, cells_of}
+use Rattle.sc_lower.specs.Common.{comp_at, most_cells, most_exports, most_nodes, most_params, nodes}
+use Rattle.std.specs.Prelude.{◌≡◌, ◌≤◌, ℕ, List, ◌++◌, length, Some, slice_get}
 use Rattle.std.specs.List.{All}
 use Rattle.sc_core.specs.declared.section.TypedParam.{TypedParam}
-use Rattle.sc_core.specs.declared.value.Want.TheVariants as want
 use Rattle.sc_lower.specs.declared.calls.Values.{Values}
 use Rattle.sc_lower.specs.declared.code.Code.{Code}
 use Rattle.sc_lower.specs.declared.code.Fragment.{Fragment}
 use Rattle.sc_lower.specs.Beyond.{beyond}
-use Rattle.sc_lower.specs.Expressions.{Low, Lowered}
+use Rattle.sc_lower.specs.Expressions.{Low}
 use Rattle.sc_lower.specs.Statements.{Part, Many}
 use Rattle.sc_lower.specs.Programs.{exports_of, lowered_function}
 
 abbrev pub code_of : Low → Code
 code_of low = record { stmts = low.code; at = low.at; next = low.next }
 
--- the code of two operands of these types, one after the other
-pub record IsOperands (types : Ty × Ty) (a b : Lowered) (left right : Code) (free : ℕ) : Type 0 where
-  pub first : types.0 ≡ a.ty
-  pub second : types.1 ≡ b.ty
-  pub before : left ≡ code_of (a.form want.Value free)
-  pub following : right ≡ code_of (b.form want.Value left.next)
+-- code that is there already, and the code of an expression after it
+abbrev pub code_after : List TacStmt → Low → Code
+code_after stmts low = record { stmts = stmts ++ low.code; at = low.at; next = low.next }
 
 abbrev pub fragment_of : Part → Fragment
 fragment_of part = record { stmts = part.code; next = part.next }
+
+-- code that is there already, and more after it
+abbrev pub fragment_after : List TacStmt → Part → Fragment
+fragment_after stmts rest = record { stmts = stmts ++ rest.code; next = rest.next }
 
 abbrev pub values_of : Many → Values
 values_of many = record { stmts = many.code; at = many.at; next = many.next }

@@ -5,7 +5,7 @@ ghost use Rattle.sc_lower.specs.Prelude.{expr_beyond, expr_nodes, first_of, form
 ghost use Rattle.sc_lower.specs.Prelude.{return_value, store_at, total, values_of};
 ghost use Rattle.std.specs.Prelude.{◌≡◌, ◌≤◌, ◌+◌, ◌++◌, ◌∷◌, [], suc, map, None, Some, IfOk};
 
-use crate::code::{Fragment, Scope, single};
+use crate::code::{Fragment, Scope, extended};
 use crate::expr::{lower_expr, lower_store};
 use sc_base::OutOfMemory;
 use sc_core::{CallTarget, TypedCall, TypedExpr, TypedPlace, Want};
@@ -36,8 +36,8 @@ fn lower_args(
     let mut at = Temps::new(alloc);
     let mut next = free;
     for arg in args {
-        let code = lower_expr(alloc, scope, Want::Value, arg, next)?;
-        stmts.append(code.stmts)?;
+        let code = lower_expr(alloc, scope, Want::Value, arg, next, stmts)?;
+        stmts = code.stmts;
         at.push(code.at)?;
         next = code.next;
     }
@@ -130,7 +130,8 @@ pub fn store_call(
     ensures few { IfOk result (λ fragment. fragment.next ≤ free + suc (expr_nodes place.now + call_nodes call.now)) }
 {
     let values = lower_args(alloc, scope, call.args.as_slice(), free)?;
-    let store = lower_store(alloc, scope, place.get(), values.next, values.next + 1)?;
+    let (free, none) = (values.next + 1, TacStmts::new(alloc));
+    let store = lower_store(alloc, scope, place.get(), values.next, free, none)?;
     with_call(values, call.target, store)
 }
 
@@ -152,6 +153,6 @@ pub fn lower_return_call(
     let last = TacStmt::Return {
         value: Some(values.next),
     };
-    let rest = single(alloc, last, values.next + 1)?;
+    let rest = extended(TacStmts::new(alloc), last, values.next + 1)?;
     with_call(values, call.target, rest)
 }

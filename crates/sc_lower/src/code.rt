@@ -31,12 +31,12 @@ pub struct Fragment {
     pub next: u32,
 }
 
-/// A statement that assigns the temporary `free`.
-pub fn lone(alloc: Global, stmt: TacStmt, free: u32) -> Result<Code, OutOfMemory>
+/// Statements, and one after them that assigns the temporary `free`.
+pub fn assigned(first: TacStmts, stmt: TacStmt, free: u32) -> Result<Code, OutOfMemory>
     requires { free < most_nodes }
-    ensures { IfOk result (λ code. code ≡ record { stmts = stmt ∷ []; at = free; next = suc free }) }
+    ensures { IfOk result (λ code. code ≡ record { stmts = first ++ stmt ∷ []; at = free; next = suc free }) }
 {
-    let mut stmts = TacStmts::new(alloc);
+    let mut stmts = first;
     stmts.push(stmt)?;
     Ok(Code {
         stmts,
@@ -80,19 +80,6 @@ pub fn with_result(code: Code, last: TacStmt) -> Result<Code, OutOfMemory>
     })
 }
 
-/// The code after other statements.
-pub fn following(first: TacStmts, code: Code) -> Result<Code, OutOfMemory>
-    ensures { IfOk result (λ longer. longer ≡ record { stmts = first ++ code.stmts; at = code.at; next = code.next }) }
-{
-    let mut stmts = first;
-    stmts.append(code.stmts)?;
-    Ok(Code {
-        stmts,
-        at: code.at,
-        next: code.next,
-    })
-}
-
 /// A place of this type, or what stands there. The value of an array is its place (C11 6.3.2.1p3).
 pub fn loaded(place: Code, ty: Ty, want: Want) -> Result<Code, OutOfMemory>
     ensures { IfOk result (λ code. code ≡ record {
@@ -127,11 +114,11 @@ pub fn nothing(alloc: Global, free: u32) -> Fragment
     }
 }
 
-/// A statement that assigns no temporary, on its own.
-pub fn single(alloc: Global, stmt: TacStmt, free: u32) -> Result<Fragment, OutOfMemory>
-    ensures { IfOk result (λ fragment. fragment ≡ record { stmts = stmt ∷ []; next = free }) }
+/// Statements, and one after them that assigns no temporary.
+pub fn extended(first: TacStmts, stmt: TacStmt, free: u32) -> Result<Fragment, OutOfMemory>
+    ensures { IfOk result (λ fragment. fragment ≡ record { stmts = first ++ stmt ∷ []; next = free }) }
 {
-    let mut stmts = TacStmts::new(alloc);
+    let mut stmts = first;
     stmts.push(stmt)?;
     Ok(Fragment { stmts, next: free })
 }

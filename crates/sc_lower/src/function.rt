@@ -11,7 +11,7 @@ ghost use Rattle.std.specs.Option.{option_copied};
 ghost use Rattle.sc_event.specs.declared.interface.Proto.{Proto};
 ghost use Rattle.sc_core.specs.declared.section.TypedParam.{TypedParam};
 
-use crate::code::{Fragment, Scope, after, ended, lone, nothing};
+use crate::code::{Fragment, Scope, after, assigned, ended, nothing};
 use crate::expr::lower_expr;
 use crate::nodes::function_nodes;
 use crate::selection::place_code;
@@ -40,9 +40,9 @@ fn lower_init(
     match &local.init {
         None => Ok(nothing(alloc, free)),
         Some(value) => {
-            let code = lower_expr(alloc, scope, Want::Value, value, free)?;
+            let code = lower_expr(alloc, scope, Want::Value, value, free, TacStmts::new(alloc))?;
             let variable = place_code(scope.params, VarRef::Local(number), code.next);
-            let place = lone(alloc, variable, code.next)?;
+            let place = assigned(TacStmts::new(alloc), variable, code.next)?;
             let last = TacStmt::Store {
                 place: place.at,
                 value: code.at,
@@ -181,8 +181,8 @@ fn param_count(function: &TypedFunction) -> u8
     function.params.len() as u8
 }
 
-/// A function of the section of this number.
-pub fn lower_function(
+/// What a function of the section of this number is made of.
+pub fn function_tree(
     alloc: Global,
     interfaces: &Interfaces,
     comp: CompId,

@@ -5,11 +5,11 @@ ghost use Rattle.sc_lower.specs.Prelude.{expr_nodes, forms, fragment_of, free_va
 ghost use Rattle.std.specs.Prelude.{◌≡◌, ◌≤◌, ◌+◌, ◌++◌, ◌∷◌, [], suc, IfOk};
 ghost use Rattle.sc_tac.specs.declared.stmt.TacStmt;
 
-use crate::code::{Code, Fragment, Scope, after, ended, lone, with_last};
+use crate::code::{Code, Fragment, Scope, assigned, ended, with_last};
 use crate::expr::{lower_expr, lower_store};
 use sc_base::OutOfMemory;
 use sc_core::{TypedExpr, TypedPlace, Want};
-use sc_tac::{Constant, TacStmt};
+use sc_tac::{Constant, TacStmt, TacStmts};
 use sqlite_items::Boxed;
 use std::alloc::Global;
 
@@ -32,9 +32,12 @@ fn lower_count(
                 dest: free,
                 value: Constant::Word(1),
             };
-            lone(alloc, stmt, free)
+            assigned(TacStmts::new(alloc), stmt, free)
         }
-        Some(count) => lower_expr(alloc, scope, Want::Value, count.get(), free),
+        Some(count) => {
+            let none = TacStmts::new(alloc);
+            lower_expr(alloc, scope, Want::Value, count.get(), free, none)
+        }
     }
 }
 
@@ -73,8 +76,7 @@ pub fn lower_malloc(
 {
     let count = lower_count(alloc, scope, count, free)?;
     let block = allocation(count, cells)?;
-    let store = lower_store(alloc, scope, place.get(), block.at, block.next)?;
-    after(block.stmts, store)
+    lower_store(alloc, scope, place.get(), block.at, block.next, block.stmts)
 }
 
 /// A value is freed (C11 7.22.3.3).
@@ -90,7 +92,14 @@ pub fn lower_free(
         fragment_of (free_value (forms scope.now.structs.now scope.now.params pointer.now) free)) }
     ensures few { IfOk result (λ fragment. fragment.next ≤ free + expr_nodes pointer.now) }
 {
-    let code = lower_expr(alloc, scope, Want::Value, pointer, free)?;
+    let code = lower_expr(
+        alloc,
+        scope,
+        Want::Value,
+        pointer,
+        free,
+        TacStmts::new(alloc),
+    )?;
     let last = TacStmt::Free { pointer: code.at };
     ended(code, last)
 }

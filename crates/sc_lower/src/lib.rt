@@ -13,4 +13,5 @@ mod selection;
 mod stmt;
 
 pub use laws::{keeps_branches, keeps_meaning, keeps_rules};
-pub use program::lower;
+pub use nodes::function_nodes;
+pub use program::{lower, lower_function};

@@ -1,11 +1,12 @@
 //! Sections and programs.
 
-ghost use Rattle.sc_lower.specs.Prelude.{AreFunctions, HasBranches, IsWellTyped, KeepsCodeRules, MeansTheSame};
+ghost use Rattle.sc_lower.specs.Prelude.{AreFunctions, HasBranches, IsLowerable, IsWellTyped, KeepsCodeRules};
+ghost use Rattle.sc_lower.specs.Prelude.{MeansTheSame};
 ghost use Rattle.sc_lower.specs.Prelude.{lowered_function, lowered_program, lowered_section, lowered_sections};
 ghost use Rattle.sc_base.specs.Prelude.{most_compartments};
 ghost use Rattle.std.specs.Prelude.{◌≡◌, ◌<◌, map, IfOk};
 
-use crate::function::lower_function;
+use crate::function::function_tree;
 use sc_base::OutOfMemory;
 use sc_core::{Program, ProgramTree, TypedFunction, TypedSection, TypedStruct};
 use sc_event::{CompId, Interfaces};
@@ -14,6 +15,21 @@ use sc_tac::{
     copy_structs,
 };
 use std::alloc::Global;
+
+/// A function that can be lowered, of the section of this number, which has these structs.
+pub fn lower_function(
+    alloc: Global,
+    interfaces: &Interfaces,
+    comp: CompId,
+    structs: &[TypedStruct],
+    function: &TypedFunction,
+) -> Result<TacFn, OutOfMemory>
+    requires { IsLowerable interfaces.now comp structs.now function.now }
+    ensures { IfOk result (λ lowered. lowered ≡ lowered_function interfaces.now comp structs.now function.now) }
+{
+    let tree = function_tree(alloc, interfaces, comp, structs, function)?;
+    Ok(TacFn::new(tree))
+}
 
 fn lower_functions(
     alloc: Global,
@@ -27,8 +43,7 @@ fn lower_functions(
 {
     let mut lowered = TacFns::new(alloc);
     for function in functions {
-        let tree = lower_function(alloc, interfaces, comp, structs, function)?;
-        lowered.push(TacFn::new(tree))?;
+        lowered.push(lower_function(alloc, interfaces, comp, structs, function)?)?;
     }
     Ok(lowered)
 }

@@ -58,7 +58,7 @@ pub fn known_constants(
     ensures { IfOk result (λ constants.
         constants ≡ map (known_constant (assigned_at facts.now)) (range_with_len 0 temps)) }
 {
-    let mut constants = Constants::new(alloc);
+    let mut constants = Constants::from_vec(Vec::with_capacity(alloc, temps as usize)?);
     for temp in 0..temps {
         let constant = constant_by(&constants, facts_at(facts, temp).assigned);
         constants.push(constant)?;

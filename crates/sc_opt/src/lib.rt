@@ -14,4 +14,4 @@ pub use laws::{
     chain_goes_at_once, optimiser_keeps_meaning, optimiser_keeps_rules, optimiser_keeps_shape,
     results_are_lean,
 };
-pub use program::optimise;
+pub use program::{optimise, optimise_function};

@@ -51,7 +51,7 @@ impl Tables {
     fn source_all(&self, alloc: Global, temps: &Temps) -> Result<Temps, OutOfMemory>
         ensures { IfOk result (λ sources. sources ≡ map (source_at self.now.origins.sources) temps.now) }
     {
-        let mut sources = Temps::new(alloc);
+        let mut sources = Temps::from_vec(Vec::with_capacity(alloc, temps.len())?);
         for temp in temps.as_slice() {
             sources.push(self.source(*temp))?;
         }
@@ -168,7 +168,7 @@ fn add(stmts: &mut TacStmts, kept: Option<TacStmt>) -> Result<(), OutOfMemory>
 fn pass_all(alloc: Global, tables: &Tables, stmts: &TacStmts) -> Result<TacStmts, OutOfMemory>
     ensures { IfOk result (λ passed. passed ≡ passed_by tables.now stmts.now) }
 {
-    let mut passed = TacStmts::new(alloc);
+    let mut passed = TacStmts::from_vec(Vec::with_capacity(alloc, stmts.len())?);
     for stmt in stmts.as_slice() {
         let kept = pass_stmt(alloc, tables, stmt)?;
         add(&mut passed, kept)?;

@@ -11,8 +11,8 @@ use sc_tac::{
 };
 use std::alloc::Global;
 
-// Passes until one takes no weight away.
-fn optimise_function(alloc: Global, f: &TacFn) -> Result<TacFn, OutOfMemory>
+/// A function, with passes over it until one takes no weight away.
+pub fn optimise_function(alloc: Global, f: &TacFn) -> Result<TacFn, OutOfMemory>
     ensures { IfOk result (λ passed. passed ≡ optimised_function f.now) }
 {
     let mut before = f.weight();

@@ -77,7 +77,7 @@ fn source_by(facts: &FactTable, sources: &Sources, temp: u32) -> u32
 pub fn sources_of(alloc: Global, temps: u32, facts: &FactTable) -> Result<Sources, OutOfMemory>
     ensures { IfOk result (λ sources. sources ≡ map (copy_source (assigned_at facts.now)) (range_with_len 0 temps)) }
 {
-    let mut sources = Sources::new(alloc);
+    let mut sources = Sources::from_vec(Vec::with_capacity(alloc, temps as usize)?);
     for temp in 0..temps {
         let source = source_by(facts, &sources, temp);
         sources.push(source)?;

@@ -1,7 +1,7 @@
-use Rattle.sc_compile.proofs.Common.{counted_code, drop, faults_from, ◌≡◌}
+use Rattle.sc_compile.proofs.Common.{large_code, drop, faults_from, ◌≡◌}
 use Rattle.sc_compile.proofs.sizes.check_all_code.Given as goal
 
 -- those so far fit
 abbrev pub invariant-loop-number : goal.invariant-loop-number
 invariant-loop-number l =
-    faults_from counted_code 0 l.sections ≡ faults_from counted_code l.number (drop l.number l.sections)
+    faults_from large_code 0 l.sections ≡ faults_from large_code l.number (drop l.number l.sections)

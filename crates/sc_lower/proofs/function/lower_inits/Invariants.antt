@@ -1,6 +1,6 @@
 use Rattle.sc_lower.proofs.Common.{drop, fragment_of, in_turn, inits_code, local_beyond, local_nodes, map, total, ◌+◌}
 use Rattle.sc_lower.proofs.Common.{◌≡◌, ◌≤◌}
-use Rattle.sc_lower.proofs.Lowered.{fragment_after}
+use Rattle.sc_lower.specs.Prelude.{fragment_after}
 use Rattle.sc_lower.proofs.function.lower_inits.Given as goal
 
 abbrev pub invariant-loop-local : goal.invariant-loop-local

@@ -1,5 +1,5 @@
 use Rattle.sc_lower.proofs.Common.{block_code, drop, fragment_of, map, stmt_beyond, stmt_nodes, total, ◌+◌, ◌≡◌, ◌≤◌}
-use Rattle.sc_lower.proofs.Lowered.{fragment_after}
+use Rattle.sc_lower.specs.Prelude.{fragment_after}
 use Rattle.sc_lower.proofs.stmt.+lower.Given as goal
 
 abbrev pub invariant-lower_stmts-loop-stmt : goal.invariant-lower_stmts-loop-stmt
