@@ -6,7 +6,8 @@ pub use Rattle.sc_event.specs.declared.row.Entry.{Entry}
 pub use Rattle.sc_core.specs.Prelude.{Arith, IsWellTyped, Roles, cells_of, denotations_of, depth_by, is_array}
 pub use Rattle.sc_core.specs.Prelude.{is_pointer, is_unsigned, is_unsigned_op, main_name, most_cells, most_exports}
 pub use Rattle.sc_core.specs.Prelude.{most_nodes, most_params, nodes, run_of, run_step, scripted_depth_by}
-pub use Rattle.sc_core.specs.Prelude.{scripted_run_of, scripted_step, size_in_bytes, target_cells, total, variables, within}
+pub use Rattle.sc_core.specs.Prelude.{scripted_run_of, scripted_step, size_in_bytes, target_cells, total}
+pub use Rattle.sc_core.specs.Prelude.{variables, within}
 pub use Rattle.sc_core.specs.declared.expr.TypedCall.{TypedCall}
 pub use Rattle.sc_core.specs.declared.expr.TypedExpr.{TypedExpr, TypedExpr-F, fold-TypedExpr}
 pub use Rattle.sc_core.specs.declared.expr.TypedKind.{TypedKind-F}

@@ -7,7 +7,8 @@ add_codes-requires c =
     may_compile c.args.program.now c.as_slice-section-items.result.now c.as_slice-section-items.ensures
     c.loop-section.section-index c.comp_id-comp.result (c.comp_id-comp.ensures ∙ c.loop-section.invariant.place)
     c.section-item.result c.loop-section-test.true c.section-item.is c.as_slice-structs.result.now
-    c.as_slice-functions.result.now c.as_slice-structs.ensures c.as_slice-functions.ensures c.requires.typed c.requires.fits
+    c.as_slice-functions.result.now c.as_slice-structs.ensures c.as_slice-functions.ensures
+    c.requires.typed c.requires.fits
 
 pub loop-section-preserved : goal.loop-section-preserved
 loop-section-preserved c = record {
