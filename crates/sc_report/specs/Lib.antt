@@ -1,4 +1,5 @@
 pub mod Check
+pub mod Made
 pub mod Making
 pub mod Report
 pub mod Summary

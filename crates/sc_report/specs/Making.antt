@@ -1,6 +1,6 @@
 -- Helping: the lines of made texts, by what is drawn for them.
 use Rattle.std.specs.Prelude.{◌≡◌, ℕ, suc, ◌*◌, List, ◌++◌, codes, decimal}
-use Rattle.sc_report_made.specs.Text.{addend, argument, function_name, state_after}
+use Rattle.sc_report.specs.Made.{addend, argument, function_name, state_after}
 use Rattle.sc_report.specs.declared.make.Drawn.{Drawn}
 
 -- a call with this argument

@@ -1,10 +1,10 @@
 //! The text of a program that is made from a size and a seed.
 
 ghost use Rattle.std.specs.Prelude.{◌≡◌, ◌≤◌, ◌++◌, ◌/◌, ℕ, IfOk, OnOk, decimal, flat_map};
-ghost use Rattle.sc_report_made.specs.Text.{all_functions, made_call, made_export, function_name, made_function};
-ghost use Rattle.sc_report_made.specs.Text.{worker_functions, made_import, made_text, made_main, next_state};
-ghost use Rattle.sc_report_made.specs.Text.{numbers_from};
-ghost use Rattle.sc_report_made.specs.Text.{made_proto, worker_name, worker_text, workers};
+ghost use Rattle.sc_report.specs.Made.{all_functions, made_call, made_export, function_name, made_function};
+ghost use Rattle.sc_report.specs.Made.{worker_functions, made_import, made_text, made_main, next_state};
+ghost use Rattle.sc_report.specs.Made.{numbers_from};
+ghost use Rattle.sc_report.specs.Made.{made_proto, worker_name, worker_text, workers};
 ghost use Rattle.sc_report.specs.Making.{IsDrawn, call_with, function_with, rounds_text, state_at};
 
 use itoa::Buffer;

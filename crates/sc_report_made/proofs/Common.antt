@@ -87,10 +87,10 @@ pub use Rattle.sc_back_performer_laws.proofs.Distinct.{among_back, among_prefix,
 pub use Rattle.sc_back_performer_laws.proofs.Uses.{IsAmong, first, is_first_or_later, later, none_among}
 pub use Rattle.sc_report_made.specs.Laws.{AreSame, AreSmall, IsAsked, IsSmall, MadeTextsAreAccepted, MadeTextsAreRead}
 pub use Rattle.sc_report_made.specs.Laws.{MadeTreesAreTyped}
-pub use Rattle.sc_report_made.specs.Text.{addend, all_functions, argument, made_call, drawn, made_export, function_name}
-pub use Rattle.sc_report_made.specs.Text.{made_function, worker_functions, made_import, made_text, made_main}
-pub use Rattle.sc_report_made.specs.Text.{numbers_from}
-pub use Rattle.sc_report_made.specs.Text.{made_proto, state_after, worker_name, worker_text, workers}
+pub use Rattle.sc_report.specs.Made.{addend, all_functions, argument, made_call, drawn, made_export, function_name}
+pub use Rattle.sc_report.specs.Made.{made_function, worker_functions, made_import, made_text, made_main}
+pub use Rattle.sc_report.specs.Made.{numbers_from}
+pub use Rattle.sc_report.specs.Made.{made_proto, state_after, worker_name, worker_text, workers}
 pub use Rattle.sc_report_made.specs.Tree.{FunctionLines, add_kind, assign_simple, below, call_kind, call_of, calls_tree}
 pub use Rattle.sc_report_made.specs.Tree.{element, export_at, function_at, import_at, literal, local_at, loop_kind}
 pub use Rattle.sc_report_made.specs.Tree.{made_trees, main_at, main_body, main_tree, next_at, no_lines, output_import}

@@ -5,8 +5,8 @@ use Rattle.sc_report_made.proofs.Common.{worker_functions, length}
 use Rattle.sc_report_made.proofs.Common.{length-append, length-decimal-le, numbers_from, suc, workers, zero, ℕ, ◌%◌}
 use Rattle.sc_report_made.proofs.Common.{◌*◌}
 use Rattle.sc_report_made.proofs.Common.{◌++◌, ◌+◌, ◌/◌, ◌<◌, ◌^◌, ◌∷◌, ◌≡◌, ◌≤◌, refl}
-use Rattle.sc_report_made.specs.Text.{made_function, made_import, made_text, made_main, made_proto, state_after}
-use Rattle.sc_report_made.specs.Text.{worker_name, worker_text}
+use Rattle.sc_report.specs.Made.{made_function, made_import, made_text, made_main, made_proto, state_after}
+use Rattle.sc_report.specs.Made.{worker_name, worker_text}
 use Rattle.sc_report_made.proofs.Numbers.{all_below, all_rise, functions_rise, workers_rise}
 use Rattle.std.proofs.Math.Nat.{mod-le}
 use Rattle.sc_report_made.proofs.Shares.{few_functions, numbers_length}

@@ -12,7 +12,7 @@ use Rattle.sc_core.specs.declared.section.TypedFunction.{TypedFunction}
 use Rattle.sc_core.specs.declared.section.TypedGlobal.{TypedGlobal}
 use Rattle.sc_core.specs.declared.section.TypedSection.{TypedSection}
 use Rattle.sc_parse_read.specs.Reading.{Reads}
-use Rattle.sc_report_made.specs.Text.{made_text}
+use Rattle.sc_report.specs.Made.{made_text}
 use Rattle.sc_report_made.specs.Tree.{made_trees}
 
 -- a size and a seed that may be asked for

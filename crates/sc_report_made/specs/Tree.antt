@@ -21,8 +21,8 @@ use Rattle.sc_ast.specs.declared.section.ImportLine.{ImportLine}
 use Rattle.sc_ast.specs.declared.section.InitTree.TheVariants.{Absent}
 use Rattle.sc_ast.specs.declared.section.LocalTree.{LocalTree}
 use Rattle.sc_ast.specs.declared.section.SectionTree.{SectionTree}
-use Rattle.sc_report_made.specs.Text.{addend, all_functions, argument, function_name, worker_functions, numbers_from}
-use Rattle.sc_report_made.specs.Text.{worker_name, workers}
+use Rattle.sc_report.specs.Made.{addend, all_functions, argument, function_name, worker_functions, numbers_from}
+use Rattle.sc_report.specs.Made.{worker_name, workers}
 
 abbrev pub int_name : TypeName
 int_name = record { base = base.Int; stars = 0 }

@@ -7,7 +7,7 @@ use Rattle.sc_top.proofs.Common.{flat_map, faults_from, frame_bytes, if◌then�
 use Rattle.sc_top.proofs.Common.{large_frame, large_frames, le-ltb, length, most_globals, recursion_from_All, refl}
 use Rattle.sc_top.proofs.Common.{stretch}
 use Rattle.sc_top.proofs.Common.{subst, suc, summary_text, sym, too_large, unless_large, ℕ, ◌++◌, ◌∙◌, ◌∷◌, ◌≡◌, ◌≤◌}
-use Rattle.sc_report_made.specs.Text.{made_text}
+use Rattle.sc_report.specs.Made.{made_text}
 
 none_above : (limit size : ℕ) (fault : CompileFault) → size ≤ limit → above limit size fault ≡ []
 none_above limit size fault few = ap (λ large. if large then fault ∷ [] else []) (le-ltb limit size few)

@@ -15,7 +15,7 @@ use Rattle.std.specs.Prelude.{Ok}
 use Rattle.sc_core.specs.declared.explanation.Explanation.{Explanation}
 use Rattle.sc_core.specs.declared.run.SourceRun.{SourceRun}
 use Rattle.sc_report.specs.Check.{check_text}
-use Rattle.sc_report_made.specs.Text.{made_text}
+use Rattle.sc_report.specs.Made.{made_text}
 use Rattle.sc_report.specs.Report.{explain_text, meaning_text, run_text}
 use Rattle.sc_report.specs.Summary.{summary_text}
 use Rattle.sc_report.specs.Verdict.{verdict_text}
