@@ -1,7 +1,6 @@
 -- The types that type names write. A struct is known by its tag's place among the section's structs.
 use Rattle.sc_types_elab_expr.specs.Common.{Ty, TypeName, TypedStruct, cells_of, most_cells, number_by_name, starred}
-use Rattle.sc_types_scope.specs.Prelude.{number_or_zero}
-use Rattle.std.specs.Prelude.{ℕ, min, List}
+use Rattle.std.specs.Prelude.{ℕ, min, List, unwrap_or}
 use Rattle.sc_ast.specs.declared.types.BaseTree.{BaseTree}
 use Rattle.sc_ast.specs.declared.types.BaseTree.TheVariants as base_tree
 use Rattle.sc_core.specs.declared.ty.BaseTy.{BaseTy}
@@ -11,7 +10,7 @@ module _ (tags : List (List ℕ)) where
   abbrev pub base_of : BaseTree → BaseTy
   base_of base_tree.Int = base.Int
   base_of base_tree.Unsigned = base.Unsigned
-  base_of (base_tree.Struct tag) = base.Struct (number_or_zero (number_by_name tags tag))
+  base_of (base_tree.Struct tag) = base.Struct (unwrap_or (number_by_name tags tag) 0)
 
   -- the type of a parameter, of a result, or under `sizeof`
   abbrev pub type_of_name : TypeName → Ty

@@ -3,7 +3,7 @@ pub use Rattle.sc_base.specs.Identifier.{main_name}
 use Rattle.sc_types_scope.specs.Common.{BaseTree, ExportLine, FunctionTree, HeadTree, ImportLine, ParamTree}
 use Rattle.sc_types_scope.specs.Common.{SectionTree, Text, TypeName, all_hold, head_of, number_by_name}
 use Rattle.std.specs.Prelude.{ℕ, zero, suc, Bool, not, ◌==◌, bytes_eq, codes, List, [], ◌∷◌, map, Option, Some, None}
-use Rattle.std.specs.Prelude.{if◌then◌else◌}
+use Rattle.std.specs.Prelude.{if◌then◌else◌, unwrap_or}
 use Rattle.std.specs.Option.{option_map, option_map_or}
 use Rattle.sc_event.specs.declared.interface.Scalar.{Scalar}
 use Rattle.sc_event.specs.declared.interface.Scalar.TheVariants as scalar
@@ -16,8 +16,7 @@ use Rattle.sc_ast.specs.declared.types.BaseTree.TheVariants as base
 use Rattle.sc_types_scope.specs.Declarations.{among, function_decls, function_names, export_names}
 
 abbrev pub number_or_zero : Option ℕ → ℕ
-number_or_zero None = 0
-number_or_zero (Some number) = number
+number_or_zero number = unwrap_or number 0
 
 -- the environment offers `input` and `output`
 abbrev pub environment : Text
