@@ -65,7 +65,12 @@ fn fixture(alloc: Global) -> Option<(Interfaces, Explanation)> {
     let stop = Stop::StepsOut;
     Some((
         Interfaces { comps, main },
-        Explanation { trace, stop, links },
+        Explanation {
+            trace,
+            stop,
+            given: Items::new(alloc),
+            links,
+        },
     ))
 }
 

@@ -1,11 +1,12 @@
--- How the chain of a trace is followed, link by link, from the run in which nobody performs on.
+-- How the chain of a trace is followed, link by link, from the run in which the given compartments perform on.
 use Rattle.sc_chain.proofs.Common.{All, All-push, Blamed, Bool, Cause, Event, IsBlamedOutside, IsLink, IsNextLink}
 use Rattle.sc_chain.proofs.Common.{IsRising, Link, List, CompSet, SourceParts, SourceRun, [], is_listed, ap, append-nil}
 use Rattle.sc_chain.proofs.Common.{append_assoc, arith, blamed_are_there, c_arith, cases_eq, chain_exists, chains_rise}
 use Rattle.sc_chain.proofs.Common.{empty_set, eq-eqb, false, length, length-append, length-map, map, map-append}
 use Rattle.sc_chain.proofs.Common.{meaning, ne_eqb, nobody, performed, performing_text, subst, suc, sym, true, with, ℕ}
 use Rattle.sc_chain.proofs.Common.{⊎_elim, ◌++◌, ◌+◌, ◌-◌, ◌<◌, ◌==◌, ◌||◌, ◌∙◌, ◌∷◌, ◌≡◌, ◌≤◌, ◌⊎◌}
-use Rattle.sc_core_laws.specs.Prelude.{IsBlameChain, BlameLink as Blame}
+use Rattle.sc_core_laws.specs.Prelude.{BlameLink as Blame, IsBlameChain, IsSubset, count_outside}
+use Rattle.sc_core_laws.proofs.Blames.{outside_few}
 use Rattle.std.proofs.lemmas.List.Folds.{list_any-append}
 
 -- SETS
@@ -56,50 +57,66 @@ module _ (source : SourceParts) (inputs : List ℕ) (steps : ℕ) (trace : List 
   abbrev pub Performs : Link → Type 0
   Performs link = link.text ≡ performing_text source.program.interfaces trace link.comp
 
+module _ (source : SourceParts) (given : List ℕ) (inputs : List ℕ) (steps : ℕ) (trace : List Event) where
+  abbrev run_of : CompSet → SourceRun
+  run_of = runs source inputs steps trace
+
+  abbrev comp_count : ℕ
+  comp_count = count source inputs steps trace
+
+  abbrev Perform : Link → Type 0
+  Perform = Performs source inputs steps trace
+
+  -- as many as there are compartments that aren't given
+  abbrev pub most_links : ℕ
+  most_links = count_outside (is_listed given) comp_count
+
   -- the links are a whole chain
   pub record IsFound (links : List Link) : Type 0 where
-    pub chain : IsBlameChain runs trace nobody (map blame_of links)
-    pub few : length links ≤ count
-    pub texts : All Performs links
+    pub chain : IsBlameChain run_of trace (is_listed given) (map blame_of links)
+    pub few : length links ≤ most_links
+    pub texts : All Perform links
 
   -- the links are those of a chain up to here, and this is the run in which their compartments perform
   pub record IsAt (run : SourceRun) (links : List Link) (comps : List ℕ) : Type 0 where
     pub rest : List Blame
-    pub whole : IsBlameChain runs trace nobody (map blame_of links ++ rest)
-    pub few : length (map blame_of links ++ rest) ≤ count
-    pub same : run ≡ runs (is_listed comps)
-    pub chain : IsBlameChain runs trace (is_listed comps) rest
+    pub whole : IsBlameChain run_of trace (is_listed given) (map blame_of links ++ rest)
+    pub few : length (map blame_of links ++ rest) ≤ most_links
+    pub same : run ≡ run_of (is_listed comps)
+    pub chain : IsBlameChain run_of trace (is_listed comps) rest
     pub least : ℕ
     pub rising : IsRising least (length trace) rest
-    pub texts : All Performs links
-    pub known : All (λ comp. comp < count) comps
+    pub texts : All Perform links
+    pub known : All (λ comp. comp < comp_count) comps
 
   pub begins : length source.program.interfaces.comps ≡ length source.program.sections →
-      ((set : CompSet) → ((runs set).trace ≡ trace) ⊎
-      IsBlamedOutside (length source.program.sections) set (runs set) trace) → (run : SourceRun) →
-      run ≡ meaning source.program inputs steps (length trace) → IsAt run [] []
-  begins as_many each run is =
-      let found = chain_exists.programs c_arith source.program inputs steps trace (length source.program.sections)
-      each in
-      let few : length found.0 ≤ length source.program.sections = found.2 in
-      let rising = (chains_rise.programs c_arith source.program inputs steps trace found.0 found.1).0 in
+      All (λ comp. comp < comp_count) given →
+      ((set : CompSet) → IsSubset (is_listed given) set → ((run_of set).trace ≡ trace) ⊎
+      IsBlamedOutside (length source.program.sections) set (run_of set) trace) → (run : SourceRun) →
+      run ≡ run_of (is_listed given) → IsAt run [] given
+  begins as_many known each run is =
+      let found = chain_exists.programs c_arith source.program inputs steps trace (is_listed given)
+      (length source.program.sections) each in
+      let few : length found.0 ≤ count_outside (is_listed given) (length source.program.sections) = found.2 in
+      let rising = (chains_rise.programs c_arith source.program inputs steps trace (is_listed given) found.0
+      found.1).0 in
       record {
         rest = found.0;
         whole = found.1;
-        few = omega (arith, few, as_many);
-        same = is ∙ sym (empty_set.meaning source.program trace inputs steps (length trace));
+        few = subst (λ n. length found.0 ≤ count_outside (is_listed given) n) (sym as_many) few;
+        same = is;
         chain = found.1;
         least = 0;
         rising = rising;
         texts = λ k d inside. absurd (omega (arith, inside));
-        known = λ k d inside. absurd (omega (arith, inside));
+        known = known;
       }
 
   module _ (run : SourceRun) (links : List Link) (comps : List ℕ) where
     -- the next link of the chain is that of the blame
     next_is : (set : CompSet) (link : Link) (blame : Blame) → IsNextLink source.program.interfaces trace run link →
-        run ≡ runs set →
-        IsLink (runs set) trace blame → blame ≡ blame_of link
+        run ≡ run_of set →
+        IsLink (run_of set) trace blame → blame ≡ blame_of link
     next_is set link blame next same is =
         let parts = same_blame blame.comp link.comp blame.cause link.cause blame.line link.line
         (sym is.blamed ∙ (ap (λ r. r.end) (sym same) ∙ next.blamed)) in
@@ -120,10 +137,10 @@ module _ (source : SourceParts) (inputs : List ℕ) (steps : ℕ) (trace : List 
 
     pub goes_on : length source.program.interfaces.comps ≡ length source.program.sections → IsAt run links comps →
         (link : Link) → IsNextLink source.program.interfaces trace run link → (later : SourceRun) →
-        later ≡ runs (is_listed (comps ++ link.comp ∷ [])) → IsAt later (links ++ link ∷ []) (comps ++ link.comp ∷ [])
+        later ≡ run_of (is_listed (comps ++ link.comp ∷ [])) → IsAt later (links ++ link ∷ []) (comps ++ link.comp ∷ [])
     goes_on as_many at link next later later_is = by at.rest at.whole at.few at.chain at.rising where
-      by : (rest : List Blame) → IsBlameChain runs trace nobody (map blame_of links ++ rest) →
-          length (map blame_of links ++ rest) ≤ count → IsBlameChain runs trace (is_listed comps) rest →
+      by : (rest : List Blame) → IsBlameChain run_of trace (is_listed given) (map blame_of links ++ rest) →
+          length (map blame_of links ++ rest) ≤ most_links → IsBlameChain run_of trace (is_listed comps) rest →
           IsRising at.least (length trace) rest → IsAt later (links ++ link ∷ []) (comps ++ link.comp ∷ [])
       by [] whole few is_trace rising =
           let here : length run.trace ≡ length trace = ap (λ r. length r.trace) at.same ∙ ap length is_trace in
@@ -135,29 +152,29 @@ module _ (source : SourceParts) (inputs : List ℕ) (steps : ℕ) (trace : List 
           link.comp link.cause link.line (ap (λ r. r.end) (sym at.same) ∙ next.blamed) in
           record {
             rest = rest;
-            whole = subst (λ blames. IsBlameChain runs trace nobody blames) (ap (λ b. map blame_of links ++ b ∷ rest) is
+            whole = subst (λ blames. IsBlameChain run_of trace (is_listed given) blames) (ap (λ b. map blame_of links ++ b ∷ rest) is
                 ∙
                 sym (one_more link rest)) whole;
-            few = subst (λ blames. length blames ≤ count) (ap (λ b. map blame_of links ++ b ∷ rest) is ∙
+            few = subst (λ blames. length blames ≤ most_links) (ap (λ b. map blame_of links ++ b ∷ rest) is ∙
                 sym (one_more link rest)) few;
             same = later_is;
-            chain = subst (λ set. IsBlameChain runs trace set rest) (ap (λ b. with b.comp (is_listed comps)) is ∙
+            chain = subst (λ set. IsBlameChain run_of trace set rest) (ap (λ b. with b.comp (is_listed comps)) is ∙
                 sym (among_more comps link.comp)) chain.1;
             least = suc blame.after;
             rising = rising.2;
-            texts = All-push Performs links link at.texts next.performs;
-            known = All-push (λ comp. comp < count) comps link.comp at.known (omega (arith, there, as_many));
+            texts = All-push Perform links link at.texts next.performs;
+            known = All-push (λ comp. comp < comp_count) comps link.comp at.known (omega (arith, there, as_many));
           }
 
     pub ends : IsAt run links comps → ((comp : ℕ) (cause : Cause) (line : ℕ) → run.end ≡ Blamed comp cause line →
         length trace ≤ length run.trace) → IsFound links
     ends at over = by at.rest at.whole at.few at.chain at.rising where
-      by : (rest : List Blame) → IsBlameChain runs trace nobody (map blame_of links ++ rest) →
-          length (map blame_of links ++ rest) ≤ count → IsBlameChain runs trace (is_listed comps) rest →
+      by : (rest : List Blame) → IsBlameChain run_of trace (is_listed given) (map blame_of links ++ rest) →
+          length (map blame_of links ++ rest) ≤ most_links → IsBlameChain run_of trace (is_listed comps) rest →
           IsRising at.least (length trace) rest → IsFound links
       by [] whole few is_trace rising =
           record {
-            chain = subst (λ blames. IsBlameChain runs trace nobody blames) (append-nil (map blame_of links)) whole;
+            chain = subst (λ blames. IsBlameChain run_of trace (is_listed given) blames) (append-nil (map blame_of links)) whole;
             few = omega (arith, few, length-append (map blame_of links) [], length-map links blame_of);
             texts = at.texts;
           }
@@ -167,10 +184,16 @@ module _ (source : SourceParts) (inputs : List ℕ) (steps : ℕ) (trace : List 
           absurd (omega (arith, late, here, rising.1))
 
     -- there are never more links than compartments
-    pub few_links : IsAt run links comps → length links ≤ count
+    pub few_links : IsAt run links comps → length links ≤ comp_count
     few_links at =
-        omega (arith, at.few, length-append (map blame_of links) at.rest, length-map links blame_of)
+        omega (
+          arith,
+          at.few,
+          outside_few (is_listed given) comp_count,
+          length-append (map blame_of links) at.rest,
+          length-map links blame_of,
+        )
 
-    pub fewer_left : (link : Link) → length (links ++ link ∷ []) ≤ count →
-        count - length (links ++ link ∷ []) < count - length links
+    pub fewer_left : (link : Link) → length (links ++ link ∷ []) ≤ comp_count →
+        comp_count - length (links ++ link ∷ []) < comp_count - length links
     fewer_left link few = omega (arith, few, length-append links (link ∷ []))

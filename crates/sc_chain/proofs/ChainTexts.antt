@@ -1,6 +1,6 @@
 -- The chain of a trace as a chain of texts: each set's text is accepted, and means what the set's scripts say.
 use Rattle.sc_chain.proofs.Common.{Accepts, All, All-append, All-push, AreFresh, Bool, Event, HasProgram, Includes}
-use Rattle.sc_chain.proofs.Common.{IsChain, IsChainFrom, IsRising, IsSource, Link, List, MeansTrace, ProgramTree}
+use Rattle.sc_chain.proofs.Common.{IsChain, IsChainFrom, IsChainWith, IsRising, IsSource, Link, List, MeansTrace, ProgramTree}
 use Rattle.sc_chain.proofs.Common.{CompSet}
 use Rattle.sc_chain.proofs.Common.{SourceParts, SourceRun, [], is_listed, ap, arith, blamed_are_there, c_arith}
 use Rattle.sc_chain.proofs.Common.{chain_is_least, chains_rise, concat, empty_set, eqb-true, false, length, map}
@@ -8,6 +8,7 @@ use Rattle.sc_chain.proofs.Common.{meaning, new_texts, nobody, performing, recom
 use Rattle.sc_chain.proofs.Common.{suc, sym, take, take-append-le, take_all, true, ℕ, ◌++◌, ◌<◌, ◌==◌, ◌||◌, ◌∙◌, ◌∷◌}
 use Rattle.sc_chain.proofs.Common.{◌≡◌}
 use Rattle.sc_base.specs.Prelude.{IsPrefix}
+use Rattle.sc_core_laws.proofs.Blames.{all_outside}
 use Rattle.sc_core_laws.specs.Chains as laws
 use Rattle.sc_chain.proofs.ChainFollowing.{IsFound, Performs, among_also, blame_of, runs}
 
@@ -48,7 +49,6 @@ kept_texts source trace comp (section ∷ sections) =
     ap (λ texts. section ∷ texts) (kept_texts source trace (suc comp) sections)
 
 module _ (source : SourceParts) (inputs : List ℕ) (steps : ℕ) (trace : List Event)
-    (is_source : IsSource source)
     (as_many : length source.program.interfaces.comps ≡ length source.program.sections)
     (one_program : (text : List ℕ) (program other : ProgramTree) → Accepts text program → Accepts text other →
     program ≡ other)
@@ -129,41 +129,67 @@ module _ (source : SourceParts) (inputs : List ℕ) (steps : ℕ) (trace : List 
   included set [] all = tt
   included set (link ∷ links) all = (all.0, included set links all.1)
 
-  module _ (links : List Link) (found : IsFound source inputs steps trace links) where
-    abbrev own_meaning : SourceRun
-    own_meaning = meaning source.program inputs steps (length trace)
+  module _ (given : List ℕ) (given_known : All (λ comp. comp < length source.program.interfaces.comps) given)
+      (links : List Link) (found : IsFound source given inputs steps trace links) where
+    abbrev first_run : SourceRun
+    first_run = run_of (is_listed given)
 
-    own_is : run_of nobody ≡ own_meaning
-    own_is = empty_set.meaning source.program trace inputs steps (length trace)
+    first_known : IsKnown (is_listed given)
+    first_known = among_known given (length source.program.interfaces.comps) given_known
 
-    rises : IsRising 0 (length trace) (map blame_of links) × AreFresh nobody (map blame_of links)
-    rises = chains_rise.programs c_arith source.program inputs steps trace (map blame_of links) found.chain
+    rises : IsRising 0 (length trace) (map blame_of links) × AreFresh (is_listed given) (map blame_of links)
+    rises = chains_rise.programs c_arith source.program inputs steps trace (is_listed given) (map blame_of links)
+        found.chain
 
-    no_links : links ≡ [] → own_meaning.trace ≡ trace
+    no_links : links ≡ [] → MeansTrace source inputs steps trace (is_listed given)
     no_links is =
-        sym (ap (λ r. r.trace) own_is) ∙
-        subst (λ ls. laws.IsBlameChain run_of trace nobody (map blame_of ls)) is found.chain
+        is_trace (is_listed given) first_known
+        (subst (λ ls. laws.IsBlameChain run_of trace (is_listed given) (map blame_of ls)) is found.chain)
 
-    no_blame : (ls : List Link) → laws.IsBlameChain run_of trace nobody (map blame_of ls) →
-        IsRising 0 (length trace) (map blame_of ls) → own_meaning.trace ≡ trace → ls ≡ []
+    no_blame : (ls : List Link) → laws.IsBlameChain run_of trace (is_listed given) (map blame_of ls) →
+        IsRising 0 (length trace) (map blame_of ls) → first_run.trace ≡ trace → ls ≡ []
     no_blame [] chain rising emitted = refl
     no_blame (link ∷ ls) chain rising emitted =
-        let long : length own_meaning.trace ≡ link.after =
-        sym (ap (λ r. length r.trace) own_is) ∙ chain.0.after in
+        let long : length first_run.trace ≡ link.after = chain.0.after in
         absurd (omega (arith, long, ap length emitted, rising.1))
 
-    pub is_chain : IsChain source inputs steps trace links
+    pub is_chain : IsChainWith source inputs steps trace given links
     is_chain = record {
-      own = ap (λ texts. source.preamble ++ concat texts) (kept_texts source trace 0 source.sections) ∙
-          is_source.joined;
-      chain = texts_from [] 0 links (λ k d inside. absurd (omega (arith, inside))) found.chain rises.0 rises.1
-          found.texts;
+      chain = texts_from given 0 links given_known found.chain rises.0 rises.1 found.texts;
       few = found.few;
-      none = (no_links, no_blame links found.chain rises.0);
-      least = λ set known.
-          let law = chain_is_least.programs c_arith source.program inputs steps trace (map blame_of links) set
-          found.chain in (
+      none = (no_links, λ that. no_blame links found.chain rises.0 (emitted_by (is_listed given) first_known that));
+      least = λ set known larger.
+          let law = chain_is_least.programs c_arith source.program inputs steps trace (is_listed given)
+          (map blame_of links) set larger found.chain in (
             λ that. includes set links (law.0 (emitted_by set known that)),
             λ all. is_trace set known (law.1 (included set links all)),
           );
+    }
+
+-- the chain of the program's own image, of which nobody is given
+pub is_own_chain : (source : SourceParts) (inputs : List ℕ) (steps : ℕ) (trace : List Event) → IsSource source →
+    ((text : List ℕ) (program other : ProgramTree) → Accepts text program → Accepts text other → program ≡ other) →
+    (links : List Link) → IsChainWith source inputs steps trace [] links → IsChain source inputs steps trace links
+is_own_chain source inputs steps trace is_source one_program links with_nobody =
+    let own : recomposed source trace nobody ≡ source.bytes =
+    ap (λ texts. source.preamble ++ concat texts) (kept_texts source trace 0 source.sections) ∙ is_source.joined in
+    record {
+      own = own;
+      chain = with_nobody.chain;
+      few = subst (λ n. length links ≤ n) (all_outside (length source.program.interfaces.comps)) with_nobody.few;
+      none = (
+        λ is.
+            let that = with_nobody.none.0 is in
+            sym (ap (λ p. (meaning p inputs steps (length trace)).trace) (one_program source.bytes that.text.program
+            source.program (subst (λ text. Accepts text that.text.program) own that.text.accepted)
+            is_source.accepted)) ∙ that.is_trace,
+        λ emitted. with_nobody.none.1 (record {
+          text = record {
+            program = source.program;
+            accepted = subst (λ text. Accepts text source.program) (sym own) is_source.accepted;
+          };
+          is_trace = emitted;
+        }),
+      );
+      least = λ set known. with_nobody.least set known (λ comp is. absurd (cc));
     }

@@ -1,46 +1,76 @@
 -- The machine's trace on the image of a program, as the chain of texts needs it.
-use Rattle.sc_chain.proofs.Common.{All, All-map, EmitsOrIsBlamed, Event, ImageParts, IsChain, IsCompiled, IsExplained}
-use Rattle.sc_chain.proofs.Common.{CompSet, IsWord, Link, List, MachineRun, Ok, ProgramTree, SourceParts, Stop, get_or}
-use Rattle.sc_chain.proofs.Common.{image_of, legal, length, machine, map, recomposed, scripted_meaning, subst, sym}
-use Rattle.sc_chain.proofs.Common.{true, word_of, ℕ, ℤ, ◌≡◌, ◌≤◌}
+use Rattle.sc_chain.proofs.Common.{Accepts, All, All-map, CompSet, EmitsOrIsBlamed, Event, ImageParts, IsAccountOf}
+use Rattle.sc_chain.proofs.Common.{IsCompiled, IsExplained, IsRobust, IsSource, IsWord, List, MachineRun, Ok}
+use Rattle.sc_chain.proofs.Common.{ProgramTree, SourceParts, [], ap, get_or, image_of, is_listed, legal, length}
+use Rattle.sc_chain.proofs.Common.{machine, map, refl, scripted_meaning, subst, suc, sym, true, word_of, ℕ, ℤ, ◌<◌}
+use Rattle.sc_chain.proofs.Common.{◌∷◌, ◌≡◌}
+use Rattle.std.specs.List.{AllZip}
+use Rattle.sc_core.specs.declared.explanation.Explanation.{Explanation}
+use Rattle.sc_core_laws.specs.Prelude.{IsSubset}
+use Rattle.sc_image.specs.Prelude.{AreGiven}
+use Rattle.sc_linker.specs.Prelude.{HasInterface}
 use Rattle.sc_word.proofs.Words.{word_of-lt}
+use Rattle.sc_chain.proofs.ChainTexts.{is_own_chain}
 
 -- words of inputs are words
 inputs_are_words : (inputs : List ℤ) → All IsWord (map word_of inputs)
 inputs_are_words inputs = All-map IsWord word_of inputs (λ i d inside. word_of-lt (get_or inputs i d))
 
-module _ (source : SourceParts) (inputs : List ℤ) (steps events : ℕ) (program : ProgramTree)
-    (same : program ≡ source.program) (image : ImageParts) (is : IsCompiled program image) where
+-- an image that does what its program means does so, too, as an image of which nobody is given
+pub own_robust : (program : ProgramTree) (image : ImageParts) → IsCompiled program image →
+    IsRobust program (is_listed []) image
+own_robust program image right = record {
+  interfaces = right.interfaces;
+  scripted = λ inputs steps events set larger are. right.scripted inputs steps events set are;
+  allowed = right.allowed;
+}
+
+module _ (source : SourceParts) (inputs : List ℤ) (steps events : ℕ) (image : ImageParts) (given : List ℕ)
+    (robust : IsRobust source.program (is_listed given) image) where
   abbrev run : MachineRun
   run = machine image (map word_of inputs) steps events
-
-  compiled : IsCompiled source.program image
-  compiled = subst (λ p. IsCompiled p image) same is
 
   module _ (trace : List Event) (emits : trace ≡ run.state.trace) where
     pub emitted_allowed : legal source.program.interfaces trace ≡ true
     emitted_allowed =
         subst (λ t. legal source.program.interfaces t ≡ true) (sym emits)
-        (compiled.allowed (map word_of inputs) steps events (inputs_are_words inputs))
+        (robust.allowed (map word_of inputs) steps events (inputs_are_words inputs))
 
-    pub emitted_scripted : (set : CompSet) → EmitsOrIsBlamed (length source.program.sections) set trace
+    pub emitted_scripted : (set : CompSet) → IsSubset (is_listed given) set →
+        EmitsOrIsBlamed (length source.program.sections) set trace
         (scripted_meaning source.program set trace (map word_of inputs) steps (length trace))
-    emitted_scripted set =
+    emitted_scripted set larger =
         subst (λ t. EmitsOrIsBlamed (length source.program.sections) set t
         (scripted_meaning source.program set t (map word_of inputs) steps (length t))) (sym emits)
-        (compiled.scripted (map word_of inputs) steps events set (inputs_are_words inputs))
+        (robust.scripted (map word_of inputs) steps events set larger (inputs_are_words inputs))
 
-  pub explained : image_of program ≡ Ok image → (observed trace : List Event) → trace ≡ observed →
-      observed ≡ run.state.trace → (stop : Stop) → stop ≡ run.stop → (links : List Link) →
-      IsChain source (map word_of inputs) steps trace links →
-      (length source.bytes ≤ 1048576 → (set : CompSet) → length (recomposed source observed set) ≤ 8388608) →
-      IsExplained source (map word_of inputs) steps events (record { trace = observed; stop = stop; links = links })
-  explained has_image observed trace same_trace emits stop stops links chain short = record {
-    image = image;
-    compiled = subst (λ p. image_of p ≡ Ok image) same has_image;
-    right = compiled;
-    trace = emits;
-    stop = stops;
-    chain = subst (λ t. IsChain source (map word_of inputs) steps t links) same_trace chain;
-    short = short;
-  }
+-- the account of a run of the program's own image
+pub own_explained : (source : SourceParts) (inputs : List ℕ) (steps events : ℕ) (image : ImageParts) → IsSource source →
+    ((text : List ℕ) (program other : ProgramTree) → Accepts text program → Accepts text other → program ≡ other) →
+    image_of source.program ≡ Ok image → IsCompiled source.program image → (explanation : Explanation) →
+    IsAccountOf source image [] inputs steps events explanation →
+    IsExplained source inputs steps events explanation
+own_explained source inputs steps events image is_source one_program has_image right explanation account = record {
+  image = image;
+  compiled = has_image;
+  right = right;
+  trace = account.trace;
+  stop = account.stop;
+  nobody_given = account.given;
+  chain = is_own_chain source inputs steps explanation.trace is_source one_program explanation.links account.chain;
+  short = account.short;
+}
+
+-- compartments of the image are compartments of the program
+listed_known : {A B : Type 0} (P : A → B → Type 0) (xs : List A) (ys : List B) → AllZip P xs ys →
+    length xs ≡ length ys
+listed_known P [] [] all = refl
+listed_known P [] (y ∷ ys) all = absurd all
+listed_known P (x ∷ xs) [] all = absurd all
+listed_known P (x ∷ xs) (y ∷ ys) all = ap suc (listed_known P xs ys all.1)
+
+pub given_known : (program : ProgramTree) (own image : ImageParts) (given : List ℕ) → IsCompiled program own →
+    AreGiven own image given → All (λ comp. comp < length program.interfaces.comps) given
+given_known program own image given right are =
+    subst (λ n. All (λ comp. comp < n) given)
+    (sym (listed_known HasInterface program.interfaces.comps own.comps right.interfaces.comps)) are.there

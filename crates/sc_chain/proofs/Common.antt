@@ -22,11 +22,12 @@ pub use Rattle.sc_image.specs.Prelude.{Goes, IsWellFormed, IsWord, Outcome, Mach
 pub use Rattle.sc_image.specs.Prelude.{run, start}
 pub use Rattle.sc_image.specs.Prelude.{step, stopped}
 pub use Rattle.sc_image.specs.declared.parts.ImageParts.{ImageParts}
-pub use Rattle.sc_compile.specs.Prelude.{EmitsOrIsBlamed, IsCompiled, image_of}
+pub use Rattle.sc_compile.specs.Prelude.{EmitsOrIsBlamed, IsCompiled, IsRobust, image_of}
 pub use Rattle.sc_back.specs.Prelude.{HasNext, new_text, new_texts}
 pub use Rattle.sc_back_replay_laws.specs.Replay.{HasWords, IsRecomposed, IsReplay}
 pub use Rattle.sc_chain.specs.Common.{Blamed, Cause, Event, Interfaces, Link, ProgramTree, Replacement}
-pub use Rattle.sc_chain.specs.Prelude.{HasProgram, Includes, IsChain, IsChainFrom, IsExplained, IsNextLink, IsNextOf}
+pub use Rattle.sc_chain.specs.Prelude.{HasProgram, Includes, IsAccountOf, IsChain, IsChainFrom, IsChainWith}
+pub use Rattle.sc_chain.specs.Prelude.{IsExplained, IsNextLink, IsNextOf}
 pub use Rattle.sc_chain.specs.Prelude.{IsReplaced, IsScripted, MeansTrace, is_listed, joined_text, performing}
 pub use Rattle.sc_chain.specs.Prelude.{performing_text, recomposed}
 pub use Rattle.sc_chain.specs.Prelude.{replacement_of, text_for}

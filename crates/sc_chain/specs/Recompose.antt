@@ -2,7 +2,7 @@
 use Rattle.sc_chain.specs.Common.{Event, Interfaces, Replacement, SourceParts, back_text, new_texts}
 use Rattle.sc_event.specs.Prelude.{part}
 use Rattle.std.specs.Prelude.{ℕ, ◌==◌, Bool, if◌then◌else◌, List, [], ◌∷◌, ◌++◌, map, Option, None, Some}
-use Rattle.std.specs.List.{concat, list_any}
+use Rattle.std.specs.List.{concat}
 
 -- the text of the first replacement of a compartment, if there is one
 abbrev pub text_for : List Replacement → (comp : ℕ) → Option (List ℕ)
@@ -13,10 +13,6 @@ text_for (replacement ∷ replacements) comp =
 -- the preamble and the sections, where those of some compartments are replaced by these texts
 abbrev pub joined_text : SourceParts → (replace : ℕ → Option (List ℕ)) → List ℕ
 joined_text source replace = source.preamble ++ concat (new_texts replace 0 source.sections)
-
--- the compartments of a list
-abbrev pub is_listed : List ℕ → (comp : ℕ) → Bool
-is_listed comps comp = list_any (λ one. one == comp) comps
 
 -- the text by which a compartment performs its part of a trace
 abbrev pub performing_text : Interfaces → List Event → (comp : ℕ) → List ℕ

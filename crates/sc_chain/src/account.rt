@@ -1,26 +1,34 @@
 //! The account of a run of the machine.
 
 ghost use Rattle.sc_base.specs.Prelude.{most_events};
-ghost use Rattle.sc_chain.specs.Prelude.{IsChain, IsExplained, IsFault, IsNextOf, legal};
+ghost use Rattle.sc_chain.specs.Prelude.{IsAccountOf, IsChainWith, IsExplained, IsFault, IsImageExplained};
+ghost use Rattle.sc_chain.specs.Prelude.{IsImageFault, IsNextOf, is_listed, legal};
+ghost use Rattle.sc_core_laws.specs.Prelude.{IsSubset};
 ghost use Rattle.sc_word.specs.Prelude.{word_of};
 ghost use Rattle.sc_core.specs.Prelude.{scripted_meaning};
 ghost use Rattle.sc_image.specs.Prelude.{machine};
-ghost use Rattle.sc_compile.specs.Prelude.{EmitsOrIsBlamed};
-ghost use Rattle.std.specs.Prelude.{◌≡◌, ◌≤◌, ℕ, Bool, true, length, map, IfOk, IfErr};
+ghost use Rattle.sc_compile.specs.Prelude.{EmitsOrIsBlamed, IsRobust};
+ghost use Rattle.std.specs.Prelude.{◌≡◌, ◌<◌, ◌≤◌, ℕ, Bool, true, length, map, All, IfOk, IfErr};
 
-use crate::fault::ExplainFault;
+use crate::fault::{ExplainFault, ImageFault};
 use crate::replacing::{have_words, performing_text, replaced};
 use sc_base::{OutOfMemory, Stop};
 use sc_compile::{CompileFault, compile};
 use sc_core::{Explanation, Link, Links, RunEnd, SourceRun};
-use sc_event::{CompId, Event, Interfaces, Trace};
-use sc_image::Image;
+use sc_event::{CompId, CompIds, Event, Interfaces, Trace};
+use sc_image::{Image, given_in};
 use sc_machine::{LoadFault, Machine};
 use sc_run::run_source;
 use sc_store::PagedStore;
 use sc_types::{SourceText, one_program};
-use sqlite_items::Items;
 use std::alloc::Global;
+
+// How many steps and events a run of the machine may have.
+#[derive(Clone, Copy)]
+struct Limits {
+    steps: u32,
+    events: u32,
+}
 
 // The trace of a run of the machine, and why it stopped.
 #[derive(Drop)]
@@ -76,6 +84,17 @@ fn copied_trace(alloc: Global, events: &[Event]) -> Result<Trace, OutOfMemory>
     Ok(trace)
 }
 
+// The same compartments again.
+fn copied_comps(alloc: Global, comps: &[CompId]) -> Result<CompIds, OutOfMemory>
+    ensures { IfOk result (λ copy. copy ≡ comps.now) }
+{
+    let mut copy = CompIds::new(alloc);
+    for comp in comps {
+        copy.push(*comp)?;
+    }
+    Ok(copy)
+}
+
 // The machine's trace on an image in at most `steps` steps and `events` events.
 fn run_image(
     alloc: Global,
@@ -126,20 +145,49 @@ fn next_link(
     }))
 }
 
-// The chain of texts that accounts for a trace: as long as the meaning of the text so far is blamed before the end of
-// the trace, the blamed compartment performs its part too.
+// The run of the text in which the given compartments perform their parts of a trace. Where nobody is given it is the
+// source's own, which isn't read again.
+fn first_run(
+    alloc: Global,
+    source: &SourceText,
+    given: &[CompId],
+    inputs: &[i32],
+    steps: u32,
+    trace: &[Event],
+) -> Result<SourceRun, OutOfMemory>
+    requires allowed { legal source.now.program.interfaces trace.now ≡ true }
+    requires few { length trace.now ≤ most_events }
+    requires known { All (λ comp. comp < length source.now.program.interfaces.comps) given.now }
+    ensures { IfOk result (λ run. run ≡ scripted_meaning source.now.program (is_listed given.now) trace.now
+        (map word_of inputs.now) steps (length trace.now)) }
+{
+    let events = trace.len() as u32;
+    if given.is_empty() {
+        let run = run_source(alloc, source.program(), inputs, steps, events)?;
+        return Ok(run);
+    }
+    let text = replaced(alloc, source, trace, given)?;
+    let run = run_source(alloc, text.program(), inputs, steps, events)?;
+    Ok(run)
+}
+
+// The chain of texts that accounts for a trace of an image of which some compartments are given. As long as the meaning
+// of the text so far is blamed before the end of the trace, the blamed compartment performs its part too.
 fn chain(
     alloc: Global,
     source: &SourceText,
+    given: &[CompId],
     inputs: &[i32],
     steps: u32,
     trace: &[Event],
 ) -> Result<Links, OutOfMemory>
     requires allowed { legal source.now.program.interfaces trace.now ≡ true }
     requires few { length trace.now ≤ most_events }
-    requires scripted { (set : ℕ → Bool) → EmitsOrIsBlamed (length source.now.program.sections) set trace.now
+    requires known { All (λ comp. comp < length source.now.program.interfaces.comps) given.now }
+    requires scripted { (set : ℕ → Bool) → IsSubset (is_listed given.now) set →
+        EmitsOrIsBlamed (length source.now.program.sections) set trace.now
         (scripted_meaning source.now.program set trace.now (map word_of inputs.now) steps (length trace.now)) }
-    ensures { IfOk result (IsChain source.now (map word_of inputs.now) steps trace.now) }
+    ensures { IfOk result (IsChainWith source.now (map word_of inputs.now) steps trace.now given.now) }
 {
     one_program();
     have_words(trace);
@@ -147,8 +195,8 @@ fn chain(
     let program = source.program();
     let tree = program.tree();
     let mut links = Links::new(alloc);
-    let mut comps: Items<CompId> = Items::new(alloc);
-    let mut run = run_source(alloc, program, inputs, steps, events)?;
+    let mut comps = copied_comps(alloc, given)?;
+    let mut run = first_run(alloc, source, given, inputs, steps, trace)?;
     while let Some(link) = next_link(alloc, &tree.interfaces, trace, &run)? {
         comps.push(link.comp)?;
         links.push(link)?;
@@ -156,6 +204,37 @@ fn chain(
         run = run_source(alloc, text.program(), inputs, steps, events)?;
     }
     Ok(links)
+}
+
+// The account of a run of an image that does what the program means, but for the given compartments.
+fn account(
+    alloc: Global,
+    source: &SourceText,
+    image: Image,
+    given: CompIds,
+    inputs: &[i32],
+    limits: Limits,
+) -> Result<Explanation, OutOfMemory>
+    requires few { limits.events ≤ most_events }
+    requires robust { IsRobust source.now.program (is_listed given) image }
+    requires known { All (λ comp. comp < length source.now.program.interfaces.comps) given }
+    ensures account { IfOk result (IsAccountOf source.now image given (map word_of inputs.now) limits.steps
+        limits.events) }
+    ensures allowed { IfOk result (λ explanation. legal source.now.program.interfaces explanation.trace ≡ true) }
+    ensures few { IfOk result (λ explanation. length explanation.trace ≤ limits.events) }
+{
+    let observed = run_image(alloc, image, inputs, limits.steps, limits.events)?;
+    let emitted = observed.trace.as_slice();
+    have_words(emitted);
+    source.program();
+    let links = chain(alloc, source, given.as_slice(), inputs, limits.steps, emitted)?;
+    let MachineRun { trace, stop } = observed;
+    Ok(Explanation {
+        trace,
+        stop,
+        given,
+        links,
+    })
 }
 
 /// The machine's trace on the image of a program in at most `steps` steps and `events` events, and the chain of texts
@@ -173,19 +252,51 @@ pub fn explain(
     ensures few { IfOk result (λ explanation. length explanation.trace ≤ events) }
     ensures fault { IfErr result (IsFault source.now.program) }
 {
+    one_program();
     let image = match compile(alloc, source.program()) {
         Ok(image) => image,
         Err(CompileFault::OutOfMemory) => return Err(ExplainFault::OutOfMemory),
         Err(fault) => return Err(ExplainFault::CompileFault(fault)),
     };
-    let Ok(observed) = run_image(alloc, image, inputs, steps, events) else {
-        return Err(ExplainFault::OutOfMemory);
+    let limits = Limits { steps, events };
+    let nobody = CompIds::new(alloc);
+    match account(alloc, source, image, nobody, inputs, limits) {
+        Ok(explanation) => Ok(explanation),
+        Err(OutOfMemory) => Err(ExplainFault::OutOfMemory),
+    }
+}
+
+/// The machine's trace on an image that is the program's own but for given compartments, whose code may be anybody's, in
+/// at most `steps` steps and `events` events. The chain of texts that accounts for it begins with the text in which the
+/// given compartments perform their parts of the trace.
+pub fn explain_image(
+    alloc: Global,
+    source: &SourceText,
+    image: Image,
+    inputs: &[i32],
+    steps: u32,
+    events: u32,
+) -> Result<Explanation, ImageFault>
+    requires few { events ≤ most_events }
+    ensures explained { IfOk result (IsImageExplained source.now image (map word_of inputs.now) steps events) }
+    ensures allowed { IfOk result (λ explanation. legal source.now.program.interfaces explanation.trace ≡ true) }
+    ensures few { IfOk result (λ explanation. length explanation.trace ≤ events) }
+    ensures fault { IfErr result (IsImageFault source.now.program image) }
+{
+    let own = match compile(alloc, source.program()) {
+        Ok(own) => own,
+        Err(CompileFault::OutOfMemory) => return Err(ImageFault::OutOfMemory),
+        Err(fault) => return Err(ImageFault::CompileFault(fault)),
     };
-    let emitted = observed.trace.as_slice();
-    have_words(emitted);
-    let Ok(links) = chain(alloc, source, inputs, steps, emitted) else {
-        return Err(ExplainFault::OutOfMemory);
+    let Ok(found) = given_in(alloc, &own, &image) else {
+        return Err(ImageFault::OutOfMemory);
     };
-    let MachineRun { trace, stop } = observed;
-    Ok(Explanation { trace, stop, links })
+    let Some(given) = found else {
+        return Err(ImageFault::Differs);
+    };
+    let limits = Limits { steps, events };
+    match account(alloc, source, image, given, inputs, limits) {
+        Ok(explanation) => Ok(explanation),
+        Err(OutOfMemory) => Err(ImageFault::OutOfMemory),
+    }
 }

@@ -9,3 +9,15 @@ pub enum ExplainFault {
     #[error("out of memory")]
     OutOfMemory,
 }
+
+/// Why there is no explanation of an image by a program: the program is too large, as its compiler says, the image isn't
+/// the program's own but for given compartments, or memory ran out.
+#[derive(Clone, Copy, Debug, Error)]
+pub enum ImageFault {
+    #[error("{0}")]
+    CompileFault(CompileFault),
+    #[error("image differs")]
+    Differs,
+    #[error("out of memory")]
+    OutOfMemory,
+}

@@ -7,7 +7,7 @@ mod composed;
 mod fault;
 mod replacing;
 
-pub use account::explain;
+pub use account::{explain, explain_image};
 pub use composed::{Replacement, recompose};
-pub use fault::ExplainFault;
+pub use fault::{ExplainFault, ImageFault};
 pub use replacing::replaced;

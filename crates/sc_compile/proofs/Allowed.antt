@@ -17,7 +17,6 @@ use Rattle.sc_event.specs.declared.interface.Import.TheVariants.{Input, Output, 
 use Rattle.sc_event.specs.declared.interface.Scalar.{Scalar}
 use Rattle.sc_event.specs.declared.interface.Scalar.TheVariants.{Int}
 use Rattle.sc_image.specs.Prelude.{ImportPart}
-use Rattle.sc_image.proofs.Traces.{all_traces_legal}
 
 -- IMPORTS
 -- as an image says them: input, output, and then functions
@@ -196,10 +195,3 @@ module _ (program : ProgramTree) (codes : List CodeTree) where
   -- a linked image's interfaces allow the traces that its program's allow
   pub same_legal : (trace : List Event) → legal observed trace ≡ legal wanted trace
   same_legal trace = same_from (at_start wanted.main) trace
-
-pub allowed : (program : ProgramTree) (codes : List CodeTree) → IsWellFormed (linked_image program codes) →
-    (inputs : List ℕ) (steps events : ℕ) → All IsWord inputs →
-    legal program.interfaces (machine (linked_image program codes) inputs steps events).state.trace ≡ true
-allowed program codes formed inputs steps events words =
-    sym (same_legal program codes (machine (linked_image program codes) inputs steps events).state.trace)
-    ∙ all_traces_legal (linked_image program codes) inputs steps events formed words

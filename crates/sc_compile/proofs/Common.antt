@@ -71,6 +71,7 @@ pub use Rattle.sc_compile.specs.Common.{CodeTooLarge, CompileFault, ImageParts, 
 pub use Rattle.sc_compile.specs.Common.{TypedGlobal, TypedSection}
 pub use Rattle.sc_compile.specs.Prelude.{AreEmitted, BeginAsWords, BeginsAsWords, EachEmits, EmitsAll, EmitsOrIsBlamed}
 pub use Rattle.sc_compile.specs.Prelude.{CanBeCompiled, EmitsFrom, EmitsSo, ForwardSimulation, HasNoTests, HasParts}
+pub use Rattle.sc_compile.specs.Prelude.{IsRobust}
 pub use Rattle.sc_compile.specs.Prelude.{IsCompiled, IsCounted, IsCountedFunction, above, all_codes, built_image}
 pub use Rattle.sc_compile.specs.Prelude.{cells_in, code_from, code_size, data_size, faults_from, first, found_in}
 pub use Rattle.sc_compile.specs.Prelude.{function_tac, program_tac, section_tac}

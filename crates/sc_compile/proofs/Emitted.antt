@@ -1,18 +1,19 @@
 -- What is compiled does what its program means.
-use Rattle.sc_compile.proofs.Common.{AgreesInDepth, All, AreEmitted, AreNamed, Arith, EachEmits, Event}
+use Rattle.sc_compile.proofs.Common.{AgreesInDepth, All, AreEmitted, AreNamed, Arith, EachEmits}
 use Rattle.sc_compile.proofs.Common.{ForwardSimulation, GlobalsAreWords, ImageParts, IsBuilt, IsCompiled, IsFunction}
-use Rattle.sc_compile.proofs.Common.{IsLinkable, IsLinked, IsWellTyped, IsWhole, IsWord, List, None, ProgramTree, Run}
+use Rattle.sc_compile.proofs.Common.{IsLinkable, IsLinked, IsRobust, IsWellTyped, IsWhole, IsWord, List, None, ProgramTree, Run}
 use Rattle.sc_compile.proofs.Common.{SimulatesRun, addresses_at, all_codes, arith, built_image, c_arith, code_run}
-use Rattle.sc_compile.proofs.Common.{machine, outcomes_simulate, program_nodes, program_tac, refl, run_of, same}
+use Rattle.sc_compile.proofs.Common.{outcomes_simulate, program_nodes, program_tac, refl, run_of, same}
 use Rattle.sc_compile.proofs.Common.{same_run, subst, suc, too_large, wrapped_code_agrees, wrapping, ℕ, ◌*◌, ◌≡◌}
 use Rattle.sc_linker.proofs.Whole.{linked_images_hold}
-use Rattle.sc_emit_run_laws.proofs.Whole.{scripts_simulate, simulates}
-use Rattle.sc_compile.proofs.Allowed.{allowed}
+use Rattle.sc_core_laws.specs.Prelude.{nobody}
+use Rattle.sc_linker.specs.Prelude.{HasInterfaces}
+use Rattle.sc_emit_run_laws.proofs.Whole.{simulates}
+use Rattle.sc_compile.proofs.Given.{own_robust, robust}
 use Rattle.sc_compile.proofs.Linkable.{is_linkable}
 use Rattle.sc_compile.proofs.Linked.{is_linked}
 use Rattle.sc_compile.proofs.NoTests.{no_tests}
 use Rattle.sc_compile.proofs.Results.{gives_results, source_of}
-use Rattle.sc_compile.proofs.Scripted.{scripted_emits}
 use Rattle.sc_compile.proofs.Tac.{MeansIn, function_rules, means_in_c, means_wrapped, tac_rules}
 
 -- a run agrees with itself
@@ -38,11 +39,11 @@ module _ (program : ProgramTree) (typed : IsWellTyped program) (named : AreNamed
   linkable : IsLinkable program (all_codes (program_tac program))
   linkable = is_linkable program typed fits each
 
-  linked : IsLinked (program_tac program) image turn_pays
+  linked : IsLinked nobody (program_tac program) image turn_pays
       (addresses_at program (all_codes (program_tac program)))
   linked = is_linked program typed named words fits emitted
 
-  built : IsBuilt (program_tac program) image turn_pays
+  built : IsBuilt nobody (program_tac program) image turn_pays
   built = record {
     rules = (tac_rules program typed).rules;
     functions = λ comp number f is.
@@ -80,23 +81,24 @@ module _ (program : ProgramTree) (typed : IsWellTyped program) (named : AreNamed
       emits_by c_arith (means_in_c program typed) inputs turns are
       (wrapped_code_agrees.meaning (program_tac program) inputs turns)
 
-  -- the machine's trace
-  abbrev observed : (inputs : List ℕ) (steps events : ℕ) → List Event
-  observed inputs steps events = (machine image inputs steps events).state.trace
+  interfaces : HasInterfaces program.interfaces image
+  interfaces = linked_images_hold.interfaces program (all_codes (program_tac program))
+
+  itself_robust : IsRobust program nobody image
+  itself_robust = own_robust program typed (all_codes (program_tac program)) turn_pays built interfaces linked.formed
 
   pub compiled : IsCompiled program image
   compiled = record {
     well_formed = linked.formed;
-    interfaces = linked_images_hold.interfaces program (all_codes (program_tac program));
+    interfaces = interfaces;
     forward = all_by c_arith emits_c;
     wrapped = all_by wrapping (λ inputs turns are. emits_by wrapping (means_wrapped program typed) inputs turns are
         (itself (code_run wrapping (program_tac program) inputs turns)));
     backward = λ inputs steps events are. (emits_c inputs steps are).backward steps events (omega arith);
     no_tests = no_tests program typed linkable emitted;
     scripted = λ inputs steps events set are.
-        scripted_emits program typed set inputs steps (observed inputs steps events)
-        (scripts_simulate (program_tac program) image turn_pays built inputs steps events set are
-        (allowed program (all_codes (program_tac program)) linked.formed inputs steps events are));
-    allowed = λ inputs steps events are.
-        allowed program (all_codes (program_tac program)) linked.formed inputs steps events are;
+        itself_robust.scripted inputs steps events set (λ c none. absurd (cc)) are;
+    allowed = itself_robust.allowed;
+    robust = λ given other but.
+        robust program typed (all_codes (program_tac program)) turn_pays built interfaces given other but;
   }

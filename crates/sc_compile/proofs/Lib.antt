@@ -5,6 +5,7 @@ pub mod Codes
 pub mod Counted
 pub mod Emitting
 pub mod Fitting
+pub mod Given
 pub mod Linkable
 pub mod Linked
 pub mod Lists

@@ -28,6 +28,7 @@ use Rattle.sc_compile.proofs.Codes.{code_there}
 use Rattle.sc_compile.proofs.Linkable.{is_linkable}
 use Rattle.sc_compile.proofs.Lists.{mapped}
 use Rattle.sc_compile.proofs.Results.{source_of}
+use Rattle.sc_core_laws.specs.Prelude.{nobody}
 use Rattle.sc_compile.proofs.Tac.{means_wrapped, tac_at}
 
 fetches : (image : ImageParts) (comp address to : ℕ) (instr : Instr) → address ≡ to →
@@ -202,15 +203,15 @@ module _ (program : ProgramTree) (typed : IsWellTyped program) where
                   (word_is (start_memory image) (address + 4 * i) ∙ globals.words comp number i cells one is at);
             }
 
-        linked : IsLinked code image (24 * program_nodes program) addresses
+        linked : IsLinked nobody code image (24 * program_nodes program) addresses
         linked = record {
           formed = formed;
           main = refl;
           comps = comps_length program codes;
-          functions = has_code;
+          functions = λ comp number f honest. has_code comp number f;
           function_at = function_address;
-          main_at = λ number is. functions.main number (entered program.interfaces.main number Main is);
-          entries = enters;
+          main_at = λ number honest is. functions.main number (entered program.interfaces.main number Main is);
+          entries = λ from to index number honest. enters from to index number;
           entry_at = λ from to index proto is. record { aligned = omega arith; low = entries.low to index proto is };
           exports = λ from to index proto is. entries.index to index proto is;
           params = entries.params;
@@ -218,15 +219,15 @@ module _ (program : ProgramTree) (typed : IsWellTyped program) where
           calls = λ from to index is. imports.function from to index ∙ is;
           inputs = λ comp is. imports.input comp ∙ is;
           outputs = λ comp is. imports.output comp ∙ is;
-          globals = λ comp number cells is. stands comp number cells (its_cells comp number _ is);
-          globals_apart = λ comp number other cells more differ is at.
+          globals = λ comp number cells honest is. stands comp number cells (its_cells comp number _ is);
+          globals_apart = λ comp number other cells more honest differ is at.
               globals.apart comp number other cells more differ (its_cells comp number _ is)
               (its_cells comp other _ at);
         }
 
 pub is_linked : (program : ProgramTree) → IsWellTyped program → AreNamed program.interfaces →
     GlobalsAreWords program.sections → too_large program ≡ None → AreEmitted program →
-    IsLinked (program_tac program) (built_image program) (24 * program_nodes program)
+    IsLinked nobody (program_tac program) (built_image program) (24 * program_nodes program)
     (addresses_at program (all_codes (program_tac program)))
 is_linked program typed named given fits emitted =
     linked program typed emitted (is_linkable program typed fits emitted.functions) given named

@@ -5,9 +5,9 @@ use Rattle.sc_compile.specs.Common.{branches, c_arith, is_branch, is_ebreak, mac
 use Rattle.sc_compile.specs.Common.{run_of, scripted_meaning, total, wrapping}
 use Rattle.sc_base.specs.Prelude.{IsPrefix}
 use Rattle.sc_event.specs.Prelude.{legal}
-use Rattle.sc_core_laws.specs.Prelude.{IsBlamedOutside, CompSet}
+use Rattle.sc_core_laws.specs.Prelude.{IsBlamedOutside, CompSet, IsSubset}
 use Rattle.rv_code.specs.Prelude.{decoded}
-use Rattle.sc_image.specs.Prelude.{IsWellFormed, code_in}
+use Rattle.sc_image.specs.Prelude.{IsButFor, IsWellFormed, code_in}
 use Rattle.sc_linker.specs.Prelude.{HasInterfaces}
 use Rattle.std.specs.Prelude.{◌≡◌, ℕ, suc, ◌*◌, ◌<◌, ◌≤◌, ◌⊎◌, Bool, true, false, List, ◌++◌, length, map, All, Option}
 use Rattle.std.specs.Prelude.{None, Some, slice_get}
@@ -64,6 +64,20 @@ pub record HasNoTests (section : TypedSection) (code : List ℕ) : Type 0 where
   pub entered : All (λ word. test_word is_branch word ≡ false) entries
   pub branches : AllZip HasFewBranches section.functions functions
 
+-- What an image does of which some compartments are given, with any code, where all others are the program's.
+pub record IsRobust (program : ProgramTree) (given : CompSet) (image : ImageParts) : Type 0 where
+  pub interfaces : HasInterfaces program.interfaces image
+  -- Where a set of compartments that includes the given ones performs its part of the machine's trace, the run of the
+  -- program with as many turns as there were steps has the same trace, or a compartment outside of the set is blamed
+  -- before.
+  pub scripted : (inputs : List ℕ) (steps events : ℕ) (set : CompSet) → IsSubset given set → All IsWord inputs →
+      let observed = (machine image inputs steps events).state.trace in
+      EmitsOrIsBlamed (length program.sections) set observed
+      (scripted_meaning program set observed inputs steps (length observed))
+  -- the program's interfaces allow the machine's trace
+  pub allowed : (inputs : List ℕ) (steps events : ℕ) → All IsWord inputs →
+      legal program.interfaces (machine image inputs steps events).state.trace ≡ true
+
 pub record IsCompiled (program : ProgramTree) (image : ImageParts) : Type 0 where
   -- so that the laws of isolation hold of it
   pub well_formed : IsWellFormed image
@@ -84,3 +98,5 @@ pub record IsCompiled (program : ProgramTree) (image : ImageParts) : Type 0 wher
   -- the program's interfaces allow the machine's trace
   pub allowed : (inputs : List ℕ) (steps events : ℕ) → All IsWord inputs →
       legal program.interfaces (machine image inputs steps events).state.trace ≡ true
+  -- in place of some compartments any code may stand
+  pub robust : (given : CompSet) (other : ImageParts) → IsButFor given image other → IsRobust program given other

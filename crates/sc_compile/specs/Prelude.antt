@@ -1,7 +1,7 @@
 -- What this crate's contracts, its proofs and the crates above cite, passed on from one place. Declares nothing.
 pub use Rattle.sc_core.specs.Prelude.{IsWellTyped, cells_of, frame_bound, nodes, total, variables}
 pub use Rattle.sc_compile.specs.Compiled.{EmitsOrIsBlamed, ForwardSimulation, HasFewBranches, HasNoTests, IsCompiled}
-pub use Rattle.sc_compile.specs.Compiled.{program_nodes, test_word}
+pub use Rattle.sc_compile.specs.Compiled.{IsRobust, program_nodes, test_word}
 pub use Rattle.sc_compile.specs.Counting.{IsCounted, IsCountedFunction, cells_in}
 pub use Rattle.sc_compile.specs.Globals.{BeginAsWords, BeginsAsWords}
 pub use Rattle.sc_compile.specs.Image.{HasParts, IsFault, PartsAreSeparate, all_codes, built_image, function_code}

@@ -12,6 +12,7 @@ use Rattle.sc_core_laws.proofs.Common.{◌∙◌, ◌∷◌, ◌≡◌, ◌≤�
 use Rattle.sc_core_laws.proofs.Keeping.{Walk, place, main_walks, scripted_walks}
 use Rattle.sc_core_laws.proofs.FollowingRuns.{passes_blames}
 use Rattle.sc_core_laws.proofs.Runs.{cut_if}
+use Rattle.sc_core_laws.specs.Chains.{count_outside}
 
 -- that a compartment may be blamed
 module _ (Fair : ℕ → Type 0) where
@@ -153,24 +154,19 @@ module _ (L : Denotations) (obedient : Obedient L) (globals : Memory) (inputs : 
         link.cause link.line chain.0.blamed in (fresh, are_fresh (with link.comp set) links chain.1)
 
     pub chain_rises : ChainRises t behaviour
-    chain_rises links chain =
-        (rises nobody 0 links (λ comp cause line ends. omega arith) chain, are_fresh nobody links chain)
-
--- how many compartments below a number are not of a set
-missing : CompSet → ℕ → ℕ
-missing set zero = 0
-missing set (suc n) = (if set n then 0 else 1) + missing set n
+    chain_rises first links chain =
+        (rises first 0 links (λ comp cause line ends. omega arith) chain, are_fresh first links chain)
 
 -- a compartment at or above the number doesn't count
-above_counts : (set : CompSet) (comp n : ℕ) → n ≤ comp → missing (with comp set) n ≡ missing set n
-unfolding missing
+above_counts : (set : CompSet) (comp n : ℕ) → n ≤ comp → count_outside (with comp set) n ≡ count_outside set n
+unfolding count_outside
 above_counts set comp zero le = refl
 above_counts set comp (suc n) le = grind (arith, ne_eqb n comp, above_counts set comp n (omega (arith, le)))
 
 -- one below it that isn't of the set counts once
-below_counts : (set : CompSet) (comp n : ℕ) → set comp ≡ false → comp < n → suc (missing (with comp set) n) ≡ missing
+below_counts : (set : CompSet) (comp n : ℕ) → set comp ≡ false → comp < n → suc (count_outside (with comp set) n) ≡ count_outside
     set n
-unfolding missing
+unfolding count_outside
 below_counts set comp zero clear lt = absurd (omega (arith, lt))
 below_counts set comp (suc n) clear lt = grind (
   arith,
@@ -181,23 +177,37 @@ below_counts set comp (suc n) clear lt = grind (
   below_counts set comp n clear,
 )
 
-nobody_missing : (n : ℕ) → missing nobody n ≡ n
-unfolding missing
-nobody_missing zero = refl
-nobody_missing (suc n) = let rest = nobody_missing n in omega (arith, rest)
+-- at most all are outside of a set
+pub outside_few : (set : CompSet) (n : ℕ) → count_outside set n ≤ n
+unfolding count_outside
+outside_few set zero = omega arith
+outside_few set (suc n) = by (set n) (outside_few set n) where
+  by : (is : Bool) → count_outside set n ≤ n → (if is then 0 else 1) + count_outside set n ≤ suc n
+  by true rest = omega (arith, rest)
+  by false rest = omega (arith, rest)
 
-module _ (t : List Event) (runs : CompSet → SourceRun) (count : ℕ)
-    (each : (set : CompSet) → ((runs set).trace ≡ t) ⊎ IsBlamedOutside count set (runs set) t) where
+-- all are outside of the empty set
+pub all_outside : (n : ℕ) → count_outside nobody n ≡ n
+unfolding count_outside
+all_outside zero = refl
+all_outside (suc n) = let rest = all_outside n in omega (arith, rest)
+
+module _ (t : List Event) (runs : CompSet → SourceRun) (first : CompSet) (count : ℕ)
+    (each : (set : CompSet) → IsSubset first set → ((runs set).trace ≡ t) ⊎ IsBlamedOutside count set (runs set) t) where
   abbrev Found : CompSet → ℕ → Type 0
   Found set most = (links : List BlameLink) × IsBlameChain runs t set links × (length links ≤ most)
 
-  found : (most : ℕ) (set : CompSet) → missing set count ≤ most → Found set most
-  found zero set few = ⊎_elim (λ emits_trace. ([], emits_trace, omega arith)) (λ b.
+  grown : (set : CompSet) (comp : ℕ) → IsSubset first set → IsSubset first (with comp set)
+  grown set comp larger c is = within_with set comp c (larger c is)
+
+  found : (most : ℕ) (set : CompSet) → IsSubset first set → count_outside set count ≤ most → Found set most
+  found zero set larger few = ⊎_elim (λ emits_trace. ([], emits_trace, omega arith)) (λ b.
       let counts = below_counts set b.comp count b.outside b.compartment in absurd (omega (arith, few, counts)))
-      (each set)
-  found (suc most) set few =
-      ⊎_elim (λ emits_trace. ([], emits_trace, omega arith)) (λ b. goes_on b (found most _ (fewer b))) (each set) where
-        fewer : (b : IsBlamedOutside count set (runs set) t) → missing (with b.comp set) count ≤ most
+      (each set larger)
+  found (suc most) set larger few =
+      ⊎_elim (λ emits_trace. ([], emits_trace, omega arith))
+      (λ b. goes_on b (found most _ (grown set b.comp larger) (fewer b))) (each set larger) where
+        fewer : (b : IsBlamedOutside count set (runs set) t) → count_outside (with b.comp set) count ≤ most
         fewer b = let counts = below_counts set b.comp count b.outside b.compartment in omega (arith, few, counts)
 
         goes_on : (b : IsBlamedOutside count set (runs set) t) → Found (with b.comp set) most → Found set (suc most)
@@ -211,6 +221,6 @@ module _ (t : List Event) (runs : CompSet → SourceRun) (count : ℕ)
             )
 
 pub has_chain : (trace : List Event) (runs : CompSet → SourceRun) → HasChain trace runs
-has_chain trace runs count each =
-    let result = found trace runs count each count nobody (omega (arith, nobody_missing count)) in
+has_chain trace runs first count each =
+    let result = found trace runs first count each (count_outside first count) first (λ c is. is) (omega arith) in
     (result.0, result.1, result.2)

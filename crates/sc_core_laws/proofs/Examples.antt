@@ -63,7 +63,7 @@ pub stores_need_both : (set : CompSet) → (performed c_arith stores [] 5 two_st
     (set 1 ≡ true) × (set 2 ≡ true)
 stores_need_both set emits_trace =
     (let all : HasAllBlamed set (first_link ∷ second_link ∷ []) = (chain_is_least.programs c_arith stores [] 5
-    two_stores_trace (first_link ∷ second_link ∷ []) set stores_chain).0 emits_trace in (all.0, all.1.0))
+    two_stores_trace nobody (first_link ∷ second_link ∷ []) set (λ comp is. absurd (cc)) stores_chain).0 emits_trace in (all.0, all.1.0))
 
 -- RE-ENTRY: the compartment that is blamed is entered again while it performs
 abbrev entered_again : BlameLink
@@ -93,5 +93,5 @@ reentry_chain = (
 -- any set with that compartment emits the trace, whoever else performs
 pub reentry_suffices : (set : CompSet) → set 1 ≡ true →
     (performed c_arith (program reentry_interfaces reentry) [] 5 reentry_trace set).trace ≡ reentry_trace
-reentry_suffices set has = (chain_is_least.programs c_arith (program reentry_interfaces reentry) [] 5 _
-    (entered_again ∷ []) set reentry_chain).1 (has, tt)
+reentry_suffices set has = (chain_is_least.programs c_arith (program reentry_interfaces reentry) [] 5 _ nobody
+    (entered_again ∷ []) set (λ comp is. absurd (cc)) reentry_chain).1 (has, tt)

@@ -321,5 +321,5 @@ module _ (L : Denotations) (obedient : Obedient L) (globals : Memory) (inputs : 
           is_enough links _ (with_link set small _ larger all.0) chain.1 all.1
 
     pub least_is_chain : LeastIsChain t behaviour
-    least_is_chain links set chain =
-        (is_needed set links nobody (λ c is. absurd (cc)) chain, is_enough set links nobody (λ c is. absurd (cc)) chain)
+    least_is_chain first links set larger chain =
+        (is_needed set links first larger chain, is_enough set links first larger chain)

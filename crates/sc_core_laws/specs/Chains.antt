@@ -1,7 +1,8 @@
 -- Runs in which the compartments of a set perform their parts of a trace, and the chain of sets that leads to it.
 use Rattle.sc_core_laws.specs.Common.{Arith, Blamed, Cause, Event, IsPrefix, ProgramTree, SourceRun, TurnsOut}
 use Rattle.sc_core_laws.specs.Common.{scripted_by}
-use Rattle.std.specs.Prelude.{◌≡◌, ℕ, suc, ◌<◌, ◌≤◌, Bool, true, false, ◌||◌, ◌==◌, List, [], ◌∷◌, ◌++◌, length}
+use Rattle.std.specs.Prelude.{◌≡◌, ℕ, zero, suc, ◌+◌, ◌<◌, ◌≤◌, Bool, true, false, if◌then◌else◌, ◌||◌, ◌==◌, List, []}
+use Rattle.std.specs.Prelude.{◌∷◌, ◌++◌, length}
 
 -- the second run emits an event more than the first, or ends right there for want of a turn or of a row
 pub data PassesBlame (run other : SourceRun) : Type 0 where
@@ -20,6 +21,11 @@ nobody comp = false
 
 abbrev pub with : ℕ → CompSet → CompSet
 with more set comp = comp == more || set comp
+
+-- the number of compartments below a bound that are not in a set
+pub count_outside : CompSet → ℕ → ℕ
+count_outside set zero = 0
+count_outside set (suc bound) = (if set bound then 0 else 1) + count_outside set bound
 
 -- a compartment that was blamed after `after` events, and why
 pub record BlameLink : Type 0 where

@@ -7,7 +7,7 @@ use Rattle.sc_core_laws.specs.Common.{scripted_wrapped, stopped_at, within, wrap
 use Rattle.std.specs.Prelude.{◌≡◌, ◌⊎◌, ℕ, suc, ◌<◌, ◌≤◌, ◌++◌, true, false, List, length, Option}
 use Rattle.sc_core_laws.specs.Chains.{CompSet, IsSubset, nobody, BlameLink, IsBlamedOutside, performed, IsBlameChain}
 use Rattle.sc_core_laws.specs.Chains.{IsRising}
-use Rattle.sc_core_laws.specs.Chains.{AreFresh, HasAllBlamed, PassesBlame}
+use Rattle.sc_core_laws.specs.Chains.{AreFresh, HasAllBlamed, PassesBlame, count_outside}
 use Rattle.sc_core_laws.specs.Ends.{IsArithmetic}
 use Rattle.sc_core_laws.specs.Growth.{Gone, last}
 use Rattle.sc_core_laws.specs.InteractionTrees.{DenotationsMatch, Obedient}
@@ -166,22 +166,26 @@ module _ (trace : List Event) (runs : CompSet → SourceRun) where
       (runs small).end ≡ Blamed comp cause line → IsPrefix (runs small).trace trace → large comp ≡ true →
       PassesBlame (runs small) (runs large)
 
-  -- of all sets those give the trace that have every compartment of the chain: the compartments of the chain are the
-  -- least
+  -- Of all sets that include the one with which a chain begins, exactly those give the trace that have every compartment
+  -- of the chain: the compartments of the chain are the least.
   abbrev pub LeastIsChain : Type 0
-  LeastIsChain = (links : List BlameLink) (set : CompSet) → IsBlameChain runs trace nobody links →
+  LeastIsChain = (first : CompSet) (links : List BlameLink) (set : CompSet) → IsSubset first set →
+      IsBlameChain runs trace first links →
       ((runs set).trace ≡ trace → HasAllBlamed set links) × (HasAllBlamed set links → (runs set).trace ≡ trace)
 
-  -- the links of a chain come after ever more events of the trace, all before its end, and their compartments differ
+  -- The links of a chain come after ever more events of the trace, all before its end. Their compartments differ from
+  -- one another and from those with which the chain begins.
   abbrev pub ChainRises : Type 0
-  ChainRises = (links : List BlameLink) → IsBlameChain runs trace nobody links →
-      IsRising 0 (length trace) links × AreFresh nobody links
+  ChainRises = (first : CompSet) (links : List BlameLink) → IsBlameChain runs trace first links →
+      IsRising 0 (length trace) links × AreFresh first links
 
-  -- where every set emits the trace or is blamed outside of itself, there is a chain, of at most as many links as
-  -- compartments
+  -- Where every set that includes a first one emits the trace or is blamed outside of itself, there is a chain that
+  -- begins with the first set. It has at most as many links as there are compartments outside of that set.
   abbrev pub HasChain : Type 0
-  HasChain = (count : ℕ) → ((set : CompSet) → ((runs set).trace ≡ trace) ⊎ IsBlamedOutside count set (runs set) trace) →
-      (links : List BlameLink) × IsBlameChain runs trace nobody links × (length links ≤ count)
+  HasChain = (first : CompSet) (count : ℕ) →
+      ((set : CompSet) → IsSubset first set →
+      ((runs set).trace ≡ trace) ⊎ IsBlamedOutside count set (runs set) trace) →
+      (links : List BlameLink) × IsBlameChain runs trace first links × (length links ≤ count_outside first count)
 
 abbrev pub MoreMayPerform : Type 0
 MoreMayPerform = HoldsOfSets EmitsWithMore

@@ -3,7 +3,7 @@ pub use Rattle.sc_core_laws.specs.Agreement.{AgreeingRunAlike, BodiesAgree, Call
 pub use Rattle.sc_core_laws.specs.Agreement.{FunctionsAgree, Meets, OtherLinesAgree, PiecesAgree, RunsAgree}
 pub use Rattle.sc_core_laws.specs.Agreement.{piece_without_line, without_line}
 pub use Rattle.sc_core_laws.specs.Chains.{AreFresh, HasAllBlamed, IsBlamedOutside, IsBlameChain, IsLink, IsRising}
-pub use Rattle.sc_core_laws.specs.Chains.{IsSubset}
+pub use Rattle.sc_core_laws.specs.Chains.{IsSubset, count_outside}
 pub use Rattle.sc_core_laws.specs.Chains.{BlameLink, PassesBlame, CompSet, longer, nobody, performed, turnless, with}
 pub use Rattle.sc_core_laws.specs.Depths.{AllBefore, AllFrom, depth_after, has_no_end, stack_depth}
 pub use Rattle.sc_core_laws.specs.Ends.{IsArithmetic, IsFinal}

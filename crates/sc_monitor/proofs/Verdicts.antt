@@ -25,9 +25,9 @@ denied : (rules : List Rule) (state : ℕ) (taken : Option ℕ) (rule : ℕ) →
 denied rules state None rule breaks = absurd (cc)
 denied rules state (Some place) rule breaks = denied_at rules place (goal_of rules place) rule refl breaks
 
-module _ (rules : List Rule) (interfaces : Interfaces) (links : List Link) where
+module _ (rules : List Rule) (interfaces : Interfaces) (given : List ℕ) (links : List Link) where
   abbrev from : (after state : ℕ) → List Event → Verdict
-  from = verdict_from rules interfaces links
+  from = verdict_from rules interfaces given links
 
   -- the violation is `i` events further on
   record IsFurther (trace : List Event) (start begins after comp rule : ℕ) (compromised : Bool) : Type 0 where
@@ -39,7 +39,7 @@ module _ (rules : List Rule) (interfaces : Interfaces) (links : List Link) where
     pub state : ℕ
     pub before : from start begins (take i trace) ≡ Holds state
     pub denied : IsDenied rules (rule_for rules interfaces state event) rule
-    pub replaced : compromised ≡ is_compromised links comp after
+    pub replaced : compromised ≡ is_compromised given links comp after
 
   further : (trace : List Event) (start begins after comp rule : ℕ) (compromised : Bool) →
       from start begins trace ≡ Violated after comp rule compromised →
@@ -54,7 +54,7 @@ module _ (rules : List Rule) (interfaces : Interfaces) (links : List Link) where
           IsFurther later (start + 1) next after comp rule compromised) → (move : Move) →
           move_at rules interfaces begins event ≡ move →
           after_move move (λ next. from (start + 1) next later)
-          (λ broken. Violated start (performer event) broken (is_compromised links (performer event) start)) ≡
+          (λ broken. Violated start (performer event) broken (is_compromised given links (performer event) start)) ≡
           Violated after comp rule compromised →
           IsFurther (event ∷ later) start begins after comp rule compromised
       at goes_on (Goes next) is violates =
@@ -67,7 +67,7 @@ module _ (rules : List Rule) (interfaces : Interfaces) (links : List Link) where
             state = rest.state;
             before = ap (λ move. after_move move (λ next. from (start + 1) next (take rest.i later))
                 (λ broken. Violated start (performer event) broken
-                (is_compromised links (performer event) start))) is ∙ rest.before;
+                (is_compromised given links (performer event) start))) is ∙ rest.before;
             denied = rest.denied;
             replaced = rest.replaced;
           }
@@ -75,7 +75,7 @@ module _ (rules : List Rule) (interfaces : Interfaces) (links : List Link) where
           let same_place : start ≡ after = cc in
           let same_comp : performer event ≡ comp = cc in
           let same_rule : broken ≡ rule = cc in
-          let same_answer : is_compromised links (performer event) start ≡ compromised = cc in record {
+          let same_answer : is_compromised given links (performer event) start ≡ compromised = cc in record {
             i = zero;
             sum = omega (arith, same_place);
             event = event;
@@ -84,8 +84,8 @@ module _ (rules : List Rule) (interfaces : Interfaces) (links : List Link) where
             state = begins;
             before = refl;
             denied = denied rules begins (rule_for rules interfaces begins event) rule (is ∙ ap Breaks same_rule);
-            replaced = sym same_answer ∙ ap (λ c. is_compromised links c start) same_comp ∙
-                ap (λ k. is_compromised links comp k) same_place;
+            replaced = sym same_answer ∙ ap (λ c. is_compromised given links c start) same_comp ∙
+                ap (λ k. is_compromised given links comp k) same_place;
           }
 
 -- a rule that matches no event is taken by none
@@ -105,15 +105,15 @@ none_taken (rule ∷ rules) interfaces state event never =
     position-cons test rule rules ∙ ap (λ b. cond b (Some 0) (option_map suc (position test rules))) fails ∙
     ap (option_map suc) later
 
-holds_from : (rules : List Rule) (interfaces : Interfaces) (links : List Link) (trace : List Event) (start state : ℕ) →
-    NamesNoEvent rules interfaces trace → verdict_from rules interfaces links start state trace ≡ Holds state
-holds_from rules interfaces links [] start state names = refl
-holds_from rules interfaces links (event ∷ later) start state names =
+holds_from : (rules : List Rule) (interfaces : Interfaces) (given : List ℕ) (links : List Link) (trace : List Event) (start state : ℕ) →
+    NamesNoEvent rules interfaces trace → verdict_from rules interfaces given links start state trace ≡ Holds state
+holds_from rules interfaces given links [] start state names = refl
+holds_from rules interfaces given links (event ∷ later) start state names =
     let stays = none_taken rules interfaces state event (λ place rule is. names.at place zero rule event is refl) in
     ap (λ taken. after_move (by_rule rules state taken)
-    (λ next. verdict_from rules interfaces links (start + 1) next later)
-    (λ broken. Violated start (performer event) broken (is_compromised links (performer event) start))) stays ∙
-    holds_from rules interfaces links later (start + 1) state
+    (λ next. verdict_from rules interfaces given links (start + 1) next later)
+    (λ broken. Violated start (performer event) broken (is_compromised given links (performer event) start))) stays ∙
+    holds_from rules interfaces given links later (start + 1) state
     (record { at = λ place k rule e is there. names.at place (suc k) rule e is there })
 
 -- ---- the laws
@@ -121,20 +121,20 @@ holds_from rules interfaces links (event ∷ later) start state names =
 pub holds_unnamed : (policy : Policy) (interfaces : Interfaces) (explanation : Explanation) →
     NamesNoEvent policy.rules interfaces explanation.trace → verdict policy interfaces explanation ≡ Holds 0
 holds_unnamed policy interfaces explanation names =
-    holds_from policy.rules interfaces explanation.links explanation.trace 0 0 names
+    holds_from policy.rules interfaces explanation.given explanation.links explanation.trace 0 0 names
 
 pub is_violation : (policy : Policy) (interfaces : Interfaces) (explanation : Explanation) (after comp rule : ℕ)
     (compromised : Bool) → verdict policy interfaces explanation ≡ Violated after comp rule compromised →
-    IsViolation policy.rules interfaces explanation.links explanation.trace after comp rule
+    IsViolation policy.rules interfaces explanation.given explanation.links explanation.trace after comp rule
 is_violation policy interfaces explanation after comp rule compromised violated =
-    let found = further policy.rules interfaces explanation.links explanation.trace 0 0 after comp rule compromised
+    let found = further policy.rules interfaces explanation.given explanation.links explanation.trace 0 0 after comp rule compromised
     violated in
     let same : found.i ≡ after = omega (arith, found.sum) in record {
       event = found.event;
       at = ap (λ k. slice_get explanation.trace k) (sym same) ∙ found.at;
       by = found.by;
       state = found.state;
-      before = ap (λ k. verdict_from policy.rules interfaces explanation.links 0 0 (take k explanation.trace))
+      before = ap (λ k. verdict_from policy.rules interfaces explanation.given explanation.links 0 0 (take k explanation.trace))
           (sym same) ∙ found.before;
       place = found.denied.place;
       taken = found.denied.is;
@@ -144,15 +144,16 @@ is_violation policy interfaces explanation after comp rule compromised violated 
 
 pub is_replaced : (policy : Policy) (interfaces : Interfaces) (explanation : Explanation) (after comp rule : ℕ)
     (compromised : Bool) → verdict policy interfaces explanation ≡ Violated after comp rule compromised →
-    compromised ≡ is_compromised explanation.links comp after
+    compromised ≡ is_compromised explanation.given explanation.links comp after
 is_replaced policy interfaces explanation after comp rule compromised violated =
-    let found = further policy.rules interfaces explanation.links explanation.trace 0 0 after comp rule compromised
+    let found = further policy.rules interfaces explanation.given explanation.links explanation.trace 0 0 after comp rule compromised
     violated in
     found.replaced
 
 pub is_clean : (policy : Policy) (interfaces : Interfaces) (explanation : Explanation) (after comp rule : ℕ)
-    (compromised : Bool) → explanation.links ≡ [] →
+    (compromised : Bool) → explanation.given ≡ [] → explanation.links ≡ [] →
     verdict policy interfaces explanation ≡ Violated after comp rule compromised → compromised ≡ false
-is_clean policy interfaces explanation after comp rule compromised none violated =
+is_clean policy interfaces explanation after comp rule compromised nobody none violated =
     is_replaced policy interfaces explanation after comp rule compromised violated ∙
-    ap (λ links. is_compromised links comp after) none
+    ap (λ given. is_compromised given explanation.links comp after) nobody ∙
+    ap (λ links. is_compromised [] links comp after) none

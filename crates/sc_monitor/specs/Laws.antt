@@ -16,13 +16,13 @@ pub record NamesNoEvent (rules : List Rule) (interfaces : Interfaces) (trace : L
 
 -- the event that follows the first `after` ones is a violation: its compartment commits it, the events before it lead
 -- to a state without one, and the rule that it takes there is the one of this number and has no goal
-pub record IsViolation (rules : List Rule) (interfaces : Interfaces) (links : List Link) (trace : List Event)
-    (after comp rule : ℕ) : Type 0 where
+pub record IsViolation (rules : List Rule) (interfaces : Interfaces) (given : List ℕ) (links : List Link)
+    (trace : List Event) (after comp rule : ℕ) : Type 0 where
   pub event : Event
   pub at : slice_get trace after ≡ Some event
   pub by : performer event ≡ comp
   pub state : ℕ
-  pub before : verdict_from rules interfaces links 0 0 (take after trace) ≡ Holds state
+  pub before : verdict_from rules interfaces given links 0 0 (take after trace) ≡ Holds state
   pub place : ℕ
   pub taken : rule_for rules interfaces state event ≡ Some place
   pub denies : goal_of rules place ≡ None

@@ -1,9 +1,9 @@
 -- What a policy says of a trace: its automaton goes over the events, up to the first violation.
-use Rattle.std.specs.Prelude.{ℕ, ◌+◌, Bool, ◌&&◌, ◌==◌, nat_le, List, [], ◌∷◌, position, slice_get, Option}
+use Rattle.std.specs.Prelude.{ℕ, ◌+◌, Bool, ◌&&◌, ◌||◌, ◌==◌, nat_le, List, [], ◌∷◌, position, slice_get, Option}
 use Rattle.std.specs.Prelude.{Some, None}
 use Rattle.std.specs.Prelude.{option_and_then}
 use Rattle.std.specs.List.{list_any}
-use Rattle.sc_event.specs.Prelude.{performer}
+use Rattle.sc_event.specs.Prelude.{is_listed, performer}
 use Rattle.sc_event.specs.declared.event.Event.{Event}
 use Rattle.sc_event.specs.declared.interface.Interfaces.{Interfaces}
 use Rattle.sc_core.specs.declared.explanation.Explanation.{Explanation}
@@ -39,23 +39,25 @@ by_rule rules state (Some place) = by_goal (place + 1) (goal_of rules place)
 abbrev pub move_at : List Rule → Interfaces → (state : ℕ) → Event → Move
 move_at rules interfaces state event = by_rule rules state (rule_for rules interfaces state event)
 
--- the compartment was replaced after as many events, or after fewer
-abbrev pub is_compromised : List Link → (comp after : ℕ) → Bool
-is_compromised links comp after = list_any (λ link. link.comp == comp && nat_le link.after after) links
+-- The compartment is given, or it was replaced after as many events or after fewer.
+abbrev pub is_compromised : (given : List ℕ) → List Link → (comp after : ℕ) → Bool
+is_compromised given links comp after =
+    is_listed given comp || list_any (λ link. link.comp == comp && nat_le link.after after) links
 
 abbrev pub after_move : Move → (goes : ℕ → Verdict) → (breaks : ℕ → Verdict) → Verdict
 after_move (Goes state) goes breaks = goes state
 after_move (Breaks rule) goes breaks = breaks rule
 
 -- the verdict on the events that follow the first `after` ones, from this state on
-abbrev pub verdict_from : List Rule → Interfaces → List Link → (after state : ℕ) → List Event → Verdict
-verdict_from rules interfaces links after state [] = Holds state
-verdict_from rules interfaces links after state (event ∷ later) =
+abbrev pub verdict_from : List Rule → Interfaces → (given : List ℕ) → List Link → (after state : ℕ) → List Event →
+    Verdict
+verdict_from rules interfaces given links after state [] = Holds state
+verdict_from rules interfaces given links after state (event ∷ later) =
     after_move (move_at rules interfaces state event)
-    (λ next. verdict_from rules interfaces links (after + 1) next later)
-    (λ rule. Violated after (performer event) rule (is_compromised links (performer event) after))
+    (λ next. verdict_from rules interfaces given links (after + 1) next later)
+    (λ rule. Violated after (performer event) rule (is_compromised given links (performer event) after))
 
 -- the automaton begins in the first state
 abbrev pub verdict : Policy → Interfaces → Explanation → Verdict
 verdict policy interfaces explanation =
-    verdict_from policy.rules interfaces explanation.links 0 0 explanation.trace
+    verdict_from policy.rules interfaces explanation.given explanation.links 0 0 explanation.trace

@@ -2,7 +2,9 @@
 
 ghost use Rattle.sc_monitor.specs.Places.{matches_at};
 ghost use Rattle.sc_monitor.specs.Verdict.{is_compromised, move_at, rule_for, verdict};
-ghost use Rattle.std.specs.Prelude.{◌≡◌, ◌<◌, ◌^◌, length, position, IfSome};
+ghost use Rattle.std.specs.Prelude.{◌≡◌, ◌<◌, ◌^◌, ◌&&◌, ◌==◌, length, nat_le, position, IfSome};
+ghost use Rattle.std.specs.List.{list_any};
+ghost use Rattle.sc_event.specs.Prelude.{is_listed};
 
 use crate::Verdict;
 use crate::matching::matches;
@@ -33,7 +35,7 @@ pub fn judge(policy: &Policy, interfaces: &Interfaces, explanation: &Explanation
             Move::Breaks(rule) => {
                 let after = after as u32;
                 let comp = event.performer();
-                let compromised = is_compromised(explanation.links.as_slice(), comp, after);
+                let compromised = is_compromised(explanation, comp, after);
                 return Verdict::Violated {
                     after,
                     comp,
@@ -93,9 +95,22 @@ fn matches_at(rules: &[Rule], interfaces: &Interfaces, event: &Event, place: u16
     }
 }
 
-// Whether the compartment had been replaced when this many events were over.
-fn is_compromised(links: &[Link], comp: CompId, after: u32) -> bool
-    ensures { result ≡ is_compromised links.now comp after }
+// Whether the compartment is given or had been replaced when this many events were over.
+fn is_compromised(explanation: &Explanation, comp: CompId, after: u32) -> bool
+    ensures { result ≡ is_compromised explanation.now.given explanation.now.links comp after }
+{
+    is_given(explanation.given.as_slice(), comp)
+        || was_replaced(explanation.links.as_slice(), comp, after)
+}
+
+fn is_given(given: &[CompId], comp: CompId) -> bool
+    ensures { result ≡ is_listed given.now comp }
+{
+    given.iter().any(|one| *one == comp)
+}
+
+fn was_replaced(links: &[Link], comp: CompId, after: u32) -> bool
+    ensures { result ≡ list_any (λ link. link.comp == comp && nat_le link.after after) links.now }
 {
     links
         .iter()

@@ -14,25 +14,26 @@ pub fn unnamed_events()
         → NamesNoEvent policy.rules interfaces explanation.trace → verdict policy interfaces explanation ≡ Holds 0 }
 {}
 
-/// A verdict depends on the trace and the links only: how the machine stopped says nothing.
+/// A verdict depends only on the trace, the given compartments and the links: how the machine stopped says nothing.
 pub fn trace_and_links()
     ensures { (policy : Policy) (interfaces : Interfaces) (one other : Explanation) → one.trace ≡ other.trace
-        → one.links ≡ other.links → verdict policy interfaces one ≡ verdict policy interfaces other }
+        → one.given ≡ other.given → one.links ≡ other.links → verdict policy interfaces one ≡ verdict policy interfaces other }
 {}
 
-/// Where nothing was replaced, every violation is clean.
+/// Where nobody is given and nothing was replaced, every violation is clean.
 pub fn no_links()
     ensures { (policy : Policy) (interfaces : Interfaces) (explanation : Explanation) (after comp rule : ℕ)
-        (compromised : Bool) → explanation.links ≡ []
+        (compromised : Bool) → explanation.given ≡ [] → explanation.links ≡ []
         → verdict policy interfaces explanation ≡ Violated after comp rule compromised → compromised ≡ false }
 {}
 
-/// What is called a violation is the first one, and its compartment was compromised exactly where a link says so.
+/// What is called a violation is the first one, and its compartment was compromised exactly where it is given or a link
+/// says so.
 pub fn first_violations()
     ensures violation { (policy : Policy) (interfaces : Interfaces) (explanation : Explanation) (after comp rule : ℕ)
         (compromised : Bool) → verdict policy interfaces explanation ≡ Violated after comp rule compromised
-        → IsViolation policy.rules interfaces explanation.links explanation.trace after comp rule }
+        → IsViolation policy.rules interfaces explanation.given explanation.links explanation.trace after comp rule }
     ensures replaced { (policy : Policy) (interfaces : Interfaces) (explanation : Explanation) (after comp rule : ℕ)
         (compromised : Bool) → verdict policy interfaces explanation ≡ Violated after comp rule compromised
-        → compromised ≡ is_compromised explanation.links comp after }
+        → compromised ≡ is_compromised explanation.given explanation.links comp after }
 {}

@@ -75,6 +75,10 @@ stop_line stops.EventsOut = codes "stop events\n"
 stop_line stops.StepsOut = codes "stop steps\n"
 stop_line (stops.Trap reason pc) = codes "stop trap " ++ (reason_word reason ++ address_end pc)
 
+-- a given compartment
+abbrev pub given_line : Interfaces → (comp : ℕ) → List ℕ
+given_line interfaces comp = codes "given " ++ (comp_name interfaces comp ++ codes "\n")
+
 -- the events of a machine run, and why it stops
 abbrev pub run_text : Interfaces → List Event → Stop → List ℕ
 run_text interfaces trace stop = events_text interfaces trace ++ stop_line stop
@@ -95,7 +99,8 @@ link_line interfaces link = codes "replace " ++ (comp_name interfaces link.comp 
 abbrev pub chain_text : Interfaces → List Link → List ℕ
 chain_text interfaces links = (codes "chain" ++ number_end (length links)) ++ flat_map (link_line interfaces) links
 
--- the events of a machine run, why it stops, and the chain that accounts for it
+-- the events of a machine run, why it stops, the given compartments, and the chain that accounts for the run
 abbrev pub explain_text : Interfaces → Explanation → List ℕ
 explain_text interfaces explanation =
-    run_text interfaces explanation.trace explanation.stop ++ chain_text interfaces explanation.links
+    (run_text interfaces explanation.trace explanation.stop ++
+    flat_map (given_line interfaces) explanation.given) ++ chain_text interfaces explanation.links

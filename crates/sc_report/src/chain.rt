@@ -1,15 +1,16 @@
 ghost use Rattle.sc_event.specs.Prelude.{IsKnown};
 ghost use Rattle.std.specs.Prelude.{◌≡◌, ◌++◌, All, IfOk, OnOk, codes, flat_map, length};
-ghost use Rattle.sc_report.specs.Report.{cause_at_line, chain_text, explain_text, link_end, link_line, number_end};
+ghost use Rattle.sc_report.specs.Report.{cause_at_line, chain_text, explain_text, given_line, link_end, link_line};
+ghost use Rattle.sc_report.specs.Report.{number_end};
 
 use crate::run::{append_count, append_number, cause_word, run_text};
 use itoa::Buffer;
 use sc_base::{OutOfMemory, Text};
 use sc_core::{Cause, Explanation, Link};
-use sc_event::Interfaces;
+use sc_event::{CompId, Interfaces};
 use std::alloc::Global;
 
-/// The events of a machine run, why it stops, and the chain that accounts for it.
+/// The events of a machine run, why it stops, the given compartments, and the chain that accounts for the run.
 pub fn explain_text(
     alloc: Global,
     interfaces: &Interfaces,
@@ -24,8 +25,26 @@ pub fn explain_text(
         explanation.trace.as_slice(),
         explanation.stop,
     )?;
+    append_given(&mut text, interfaces, explanation.given.as_slice())?;
     append_chain(&mut text, interfaces, explanation.links.as_slice())?;
     Ok(text)
+}
+
+fn append_given(text: &mut Text, interfaces: &Interfaces, given: &[CompId]) -> Result<(), OutOfMemory>
+    ensures { OnOk result (text.new ≡ text.old ++ flat_map (given_line interfaces.now) given.now) }
+{
+    for comp in given {
+        append_given_line(text, interfaces, *comp)?;
+    }
+    Ok(())
+}
+
+fn append_given_line(text: &mut Text, interfaces: &Interfaces, comp: CompId) -> Result<(), OutOfMemory>
+    ensures { OnOk result (text.new ≡ text.old ++ given_line interfaces.now comp) }
+{
+    text.append(b"given ")?;
+    text.append(interfaces.comp_name(comp))?;
+    text.push(b'\n')
 }
 
 fn append_chain(text: &mut Text, interfaces: &Interfaces, links: &[Link]) -> Result<(), OutOfMemory>

@@ -4,16 +4,16 @@ use Rattle.sc_chain.proofs.account.chain.Goals as goal
 
 pub loop-run-init : goal.loop-run-init
 loop-run-init c =
-    at_first c.args.source.now (map word_of c.args.inputs.now) c.args.steps c.args.trace.now
+    at_first c.args.source.now c.args.given.now (map word_of c.args.inputs.now) c.args.steps c.args.trace.now
     (sections_are c.args.source.now c.program-program.result.now c.program-program.ensures.program
     c.tree-tree.ensures.typed)
-    c.requires.scripted c.program-program.result.now c.program-program.ensures.program c.in_ok-run.run'
-    c.in_ok-run.ensures c.new-links.result c.new-links.ensures c.new-comps.result c.new-comps.ensures
+    c.requires.known c.requires.scripted c.in_ok-run.run' c.in_ok-run.ensures c.new.result c.new.ensures
+    c.in_ok-comps.comps c.in_ok-comps.ensures
 
 pub replaced-requires-clause-known : goal.replaced-requires-clause-known
 replaced-requires-clause-known c =
     subst (All (λ comp. comp < length c.args.source.now.program.interfaces.comps)) (sym c.as_slice.ensures)
-    (known_next c.args.source.now (map word_of c.args.inputs.now) c.args.steps c.args.trace.now
+    (known_next c.args.source.now c.args.given.now (map word_of c.args.inputs.now) c.args.steps c.args.trace.now
     (sections_are c.args.source.now c.program-program.result.now c.program-program.ensures.program
     c.tree-tree.ensures.typed)
     c.loop-run.run c.loop-run.links c.loop-run.comps c.loop-run.invariant c.tree-tree.result.now.interfaces
@@ -23,7 +23,7 @@ replaced-requires-clause-known c =
 
 pub loop-run-smaller : goal.loop-run-smaller
 loop-run-smaller c =
-    fewer_next c.args.source.now (map word_of c.args.inputs.now) c.args.steps c.args.trace.now
+    fewer_next c.args.source.now c.args.given.now (map word_of c.args.inputs.now) c.args.steps c.args.trace.now
     (sections_are c.args.source.now c.program-program.result.now c.program-program.ensures.program
     c.tree-tree.ensures.typed)
     c.loop-run.run c.loop-run.links c.loop-run.comps c.loop-run.invariant c.tree-tree.result.now.interfaces
@@ -33,7 +33,7 @@ loop-run-smaller c =
 
 pub loop-run-preserved : goal.loop-run-preserved
 loop-run-preserved c =
-    at_next c.args.source.now (map word_of c.args.inputs.now) c.args.steps c.args.trace.now
+    at_next c.args.source.now c.args.given.now (map word_of c.args.inputs.now) c.args.steps c.args.trace.now
     (sections_are c.args.source.now c.program-program.result.now c.program-program.ensures.program
     c.tree-tree.ensures.typed)
     c.loop-run.run c.loop-run.links c.loop-run.comps c.loop-run.invariant c.tree-tree.result.now.interfaces
@@ -46,10 +46,10 @@ loop-run-preserved c =
 
 pub returns : goal.returns
 returns c =
-    at_last c.args.source.now (map word_of c.args.inputs.now) c.args.steps c.args.trace.now
+    at_last c.args.source.now c.args.given.now (map word_of c.args.inputs.now) c.args.steps c.args.trace.now
     (sections_are c.args.source.now c.program-program.result.now c.program-program.ensures.program
     c.tree-tree.ensures.typed)
     c.loop-run.run c.loop-run.links c.loop-run.comps c.loop-run.invariant c.tree-tree.result.now.interfaces
     (ap (λ tree. tree.interfaces) (c.tree-tree.ensures.tree ∙ c.program-program.ensures.program))
-    c.in_ok-link.field-0 c.in_ok-link.ensures c.in_default.is c.program-program.ensures.source
+    c.in_ok-link.field-0 c.in_ok-link.ensures c.requires.known c.in_default.is c.program-program.ensures.source
     c.one_program.ensures c.requires.allowed c.requires.few c.have_words.ensures
