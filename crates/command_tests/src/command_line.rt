@@ -57,6 +57,12 @@ const NO_RANGES: &str = "\
     tags --data 4294967295,2,0|tags --data 0,0,32|tags --data=-1,0,0|tags --data 0,+1,0|tags --data 0,0,a|\
     tags --data 0,0,0 --data 0,0,0|tags --turns 1|tags --show 1|exec --data 0,0,0|run --data 0,0,0";
 
+const NO_IMAGES: &str = "\
+    explain --image=1|explain --image=|explain --image 1|explain --image true|explain --image --image|\
+    explain --image=true|explain --imag|explain --show --image|explain image|judge --image=1|judge --image 1|\
+    judge --image --image|judge --image --show 1|run --image|exec --image|tags --image|compile --image|link --image|\
+    meaning --image|check --image|make --size 1 --seed 1 --image|explain --summary|judge --summary";
+
 // A command, and what it is read as.
 const COMMANDS: &str = "\
 check -> Ok(Check)
@@ -64,13 +70,20 @@ compile -> Ok(Compile)
 meaning -> Ok(Meaning(MeaningOptions { turns: 1000000, events: 1024, inputs: Items { items: [] } }))
 run -> Ok(Run(RunOptions { steps: 1000000, events: 1024, inputs: Items { items: [] } }))
 exec -> Ok(Exec(RunOptions { steps: 1000000, events: 1024, inputs: Items { items: [] } }))
-explain -> Ok(Explain(RunOptions { steps: 1000000, events: 1024, inputs: Items { items: [] } }, None))
+explain -> \
+Ok(Explain(ExplainOptions { run: RunOptions { steps: 1000000, events: 1024, inputs: Items { items: [] } }, \
+image: false, show: None }))
 tags -> Ok(Tags(RunOptions { steps: 1000000, events: 1024, inputs: Items { items: [] } }, None))
 tags --data 16777224,4,0 -> Ok(Tags(RunOptions { steps: 1000000, events: 1024, inputs: Items { items: [] } }, \
 Some(DataRange { start: 16777224, bytes: 4, comp: CompId(0) })))
 tags --data=4294967295,1,031 --steps 5 -> Ok(Tags(RunOptions { steps: 5, events: 1024, inputs: Items { items: [] } }, \
 Some(DataRange { start: 4294967295, bytes: 1, comp: CompId(31) })))
-judge -> Ok(Judge(RunOptions { steps: 1000000, events: 1024, inputs: Items { items: [] } }))
+judge -> \
+Ok(Judge(JudgeOptions { run: RunOptions { steps: 1000000, events: 1024, inputs: Items { items: [] } }, \
+image: false }))
+judge --image -> \
+Ok(Judge(JudgeOptions { run: RunOptions { steps: 1000000, events: 1024, inputs: Items { items: [] } }, \
+image: true }))
 run --steps 0 -> Ok(Run(RunOptions { steps: 0, events: 1024, inputs: Items { items: [] } }))
 run --steps=16777216 -> Ok(Run(RunOptions { steps: 16777216, events: 1024, inputs: Items { items: [] } }))
 run --steps 00000000000000000000000000000000000000007 -> \
@@ -87,8 +100,18 @@ run --in 5,-3 -> Ok(Run(RunOptions { steps: 1000000, events: 1024, inputs: Items
 run --in=-0,-000 -> Ok(Run(RunOptions { steps: 1000000, events: 1024, inputs: Items { items: [0, 0] } }))
 run --in 2147483647,-2147483648 -> \
 Ok(Run(RunOptions { steps: 1000000, events: 1024, inputs: Items { items: [2147483647, -2147483648] } }))
-explain --show 32 -> Ok(Explain(RunOptions { steps: 1000000, events: 1024, inputs: Items { items: [] } }, Some(32)))
-explain --show=0 --steps 2 -> Ok(Explain(RunOptions { steps: 2, events: 1024, inputs: Items { items: [] } }, Some(0)))
+explain --show 32 -> \
+Ok(Explain(ExplainOptions { run: RunOptions { steps: 1000000, events: 1024, inputs: Items { items: [] } }, \
+image: false, show: Some(32) }))
+explain --show=0 --steps 2 -> \
+Ok(Explain(ExplainOptions { run: RunOptions { steps: 2, events: 1024, inputs: Items { items: [] } }, \
+image: false, show: Some(0) }))
+explain --image --steps 2 -> \
+Ok(Explain(ExplainOptions { run: RunOptions { steps: 2, events: 1024, inputs: Items { items: [] } }, \
+image: true, show: None }))
+explain --show=0 --image -> \
+Ok(Explain(ExplainOptions { run: RunOptions { steps: 1000000, events: 1024, inputs: Items { items: [] } }, \
+image: true, show: Some(0) }))
 make --size 1000 --seed 4294967295 -> Ok(Make(MakeOptions { size: 1000, seed: 4294967295, summary: false }))
 make --summary --seed=0 --size=1 -> Ok(Make(MakeOptions { size: 1, seed: 0, summary: true }))
 make --size 1 --summary --seed 0 -> Ok(Make(MakeOptions { size: 1, seed: 0, summary: true }))
@@ -106,6 +129,7 @@ fn refusals(rt: HostRuntime) -> Result<(), Fail> {
         NO_PROGRAMS,
         NO_SECTIONS,
         NO_RANGES,
+        NO_IMAGES,
     ] {
         for line in lines.split('|') {
             assert!(rt; read(rt.alloc(), line)?.as_str() == "Err(Usage)", "{line}");
@@ -163,6 +187,6 @@ fn usage_fits_a_page(rt: HostRuntime) {
         }
         assert!(rt; width <= 80);
     }
-    assert!(rt; lines <= 24 && width == 0);
+    assert!(rt; lines <= 26 && width == 0);
     assert!(rt; usage().starts_with(b"secomp: usage\n"));
 }

@@ -1,14 +1,16 @@
 -- Helping: the commands as the parser gets them, and what it finds.
 use Rattle.sc_base.specs.Prelude.{Text}
 use Rattle.std.specs.Prelude.{◌≡◌, Bool, true, false, List, [], ◌++◌, map, codes, Some}
+use Rattle.std.specs.Str.{bytes_eq}
 use Rattle.clap.specs.Walk.{Row, first_of, one_of}
-use Rattle.clap.specs.Words.{App, Rule, Shape, app_of, new_rule, rule_of, subcommand_rows_of}
+use Rattle.clap.specs.Words.{App, Rule, Shape, app_of, new_rule, one_text, rule_of, subcommand_rows_of}
 use Rattle.clap.specs.Simple.{new_shape}
 use Rattle.clap.specs.declared.builder.action.ArgAction.TheVariants.{Set, SetTrue}
 use Rattle.clap.specs.declared.builder.arg.Arg.{Arg}
 use Rattle.clap.specs.declared.builder.command.Command.{Command}
 use Rattle.clap.specs.declared.builder.command.Command.TheViews.{out-Command}
 use Rattle.clap.specs.declared.parser.matches.ArgMatches.{ArgMatches}
+use Rattle.clap.specs.declared.parser.matches.Found.{Found}
 use Rattle.sc_top_words.specs.Options.{Form, Given, has_option, has_value, is_among, given_value}
 use Rattle.sc_top_words.specs.Words.{commands, form_of, parsed}
 
@@ -52,6 +54,16 @@ IsArgumentOf rule arg = (rule_of arg ≡ rule) × (arg.global ≡ false)
 abbrev pub flag_text : Bool → Text
 flag_text true = codes "true"
 flag_text false = codes "false"
+
+-- the parse found whether the flag is given
+abbrev pub IsFlag : Found → (flag : Text → Bool) → (name : Text) → Type 0
+IsFlag found flag name = one_text found name ≡ Some (flag_text (flag name))
+
+-- the parse found which flags of the command are given
+pub record HasFlags (command : Text) (found : Found) (flag : Text → Bool) : Type 0 where
+  pub explain : bytes_eq command (codes "explain") ≡ true → IsFlag found flag (codes "image")
+  pub judge : bytes_eq command (codes "judge") ≡ true → IsFlag found flag (codes "image")
+  pub make : bytes_eq command (codes "make") ≡ true → IsFlag found flag (codes "summary")
 
 -- the rows say which options are given, with their values
 pub record Says (form : Form) (settings : List Given) (rows : List Row) : Type 0 where

@@ -28,6 +28,7 @@ usage_text = lines_text (
     codes "  --in LIST    likewise: 1 to 65536 signed 32-bit inputs (none), as --in=-5,3" ∷
     codes "  --data S,B,C tags: B bytes from address S on are compartment C's data (none)" ∷
     codes "  --show K     explain: only the text after K replacements, 0 to 32" ∷
+    codes "  --image      explain, judge: run the image that stands before the text" ∷
     codes "  --section C  object, needed: the name of the section" ∷
     codes "  --size K     make, needed: how many functions, 1 to 1000" ∷
     codes "  --seed N     make, needed: which program, 0 to 4294967295" ∷

@@ -12,6 +12,8 @@ use Rattle.sc_top_words.specs.declared.command.Command.{Command}
 use Rattle.sc_top_words.specs.declared.command.Command.TheVariants.{Check, Meaning, Compile, Run, Exec, Explain}
 use Rattle.sc_top_words.specs.declared.command.Command.TheVariants.{Judge, Link, Make, Object, Tags}
 use Rattle.sc_top_words.specs.declared.command.DataRange.{DataRange}
+use Rattle.sc_top_words.specs.declared.command.ExplainOptions.{ExplainOptions}
+use Rattle.sc_top_words.specs.declared.command.JudgeOptions.{JudgeOptions}
 use Rattle.sc_top_words.specs.declared.command.MakeOptions.{MakeOptions}
 use Rattle.sc_top_words.specs.declared.command.MeaningOptions.{MeaningOptions}
 use Rattle.sc_top_words.specs.declared.command.ObjectOptions.{ObjectOptions}
@@ -24,6 +26,20 @@ with_values names = record { needed = []; valued = names; flags = [] }
 
 abbrev pub make_form : Form
 make_form = record { needed = codes "size" ∷ codes "seed" ∷ []; valued = []; flags = codes "summary" ∷ [] }
+
+abbrev pub explain_form : Form
+explain_form = record {
+  needed = [];
+  valued = codes "steps" ∷ codes "events" ∷ codes "in" ∷ codes "show" ∷ [];
+  flags = codes "image" ∷ [];
+}
+
+abbrev pub judge_form : Form
+judge_form = record {
+  needed = [];
+  valued = codes "steps" ∷ codes "events" ∷ codes "in" ∷ [];
+  flags = codes "image" ∷ [];
+}
 
 abbrev pub object_form : Form
 object_form = record { needed = codes "section" ∷ []; valued = []; flags = [] }
@@ -39,8 +55,8 @@ commands =
     (codes "run", with_values (codes "steps" ∷ codes "events" ∷ codes "in" ∷ [])) ∷
     (codes "exec", with_values (codes "steps" ∷ codes "events" ∷ codes "in" ∷ [])) ∷
     (codes "tags", with_values (codes "steps" ∷ codes "events" ∷ codes "in" ∷ codes "data" ∷ [])) ∷
-    (codes "explain", with_values (codes "steps" ∷ codes "events" ∷ codes "in" ∷ codes "show" ∷ [])) ∷
-    (codes "judge", with_values (codes "steps" ∷ codes "events" ∷ codes "in" ∷ [])) ∷
+    (codes "explain", explain_form) ∷
+    (codes "judge", judge_form) ∷
     (codes "make", make_form) ∷ []
 
 abbrev pub form_of : Text → Option Form
@@ -52,10 +68,13 @@ parsed [] = None
 parsed (name ∷ words) = option_map (λ settings. (name, settings))
     (option_and_then (λ form. options form words) (form_of name))
 
--- ---- what the options of a command say, by the value of each option that is given
+-- ---- what the options of a command say, by the value of each option that is given, and by which flags are given
 
 abbrev pub Values : Type 0
 Values = Text → Option Text
+
+abbrev pub Flags : Type 0
+Flags = Text → Bool
 
 -- the number of an option, from `low` to `high`, and `absent` where the option isn't given
 abbrev pub number_or : (absent low high : ℕ) → Option Text → Option ℕ
@@ -95,10 +114,13 @@ abbrev pub text_to_show : Option Text → Option (Option ℕ)
 text_to_show None = Some None
 text_to_show (Some text) = option_map Some (number_within 0 most_compartments text)
 
-abbrev pub explain : Values → Option Command
-explain value =
-    option_and_then (λ options. option_map (λ show. Explain options show) (text_to_show (value (codes "show"))))
-    (run_options value)
+abbrev pub explain : Values → Flags → Option ExplainOptions
+explain value flag =
+    option_and_then (λ run. option_map (λ show. record { run = run; image = flag (codes "image"); show = show })
+    (text_to_show (value (codes "show")))) (run_options value)
+
+abbrev pub judge : Values → Flags → Option JudgeOptions
+judge value flag = option_map (λ run. record { run = run; image = flag (codes "image") }) (run_options value)
 
 -- the bytes that are tagged as data of a compartment, if the option is given
 abbrev pub data_range : Option Text → Option (Option DataRange)
@@ -120,17 +142,17 @@ section value = option_and_then section_name (value (codes "section"))
 abbrev pub object : Values → Option ObjectOptions
 object value = option_map (λ section. record { section = section }) (section value)
 
-abbrev pub make : Values → (summary : Bool) → Option MakeOptions
-make value summary =
-    option_and_then (λ size. option_map (λ seed. record { size = size; seed = seed; summary = summary })
+abbrev pub make : Values → Flags → Option MakeOptions
+make value flag =
+    option_and_then (λ size. option_map (λ seed. record { size = size; seed = seed; summary = flag (codes "summary") })
     (option_and_then (number_within 0 4294967295) (value (codes "seed"))))
     (option_and_then (number_within 1 1000) (value (codes "size")))
 
 -- ---- the command
 
--- the command with this name, these values of options, and a summary or none
-abbrev pub command_with : Text → Values → (summary : Bool) → Option Command
-command_with name value summary =
+-- the command with this name, these values of options, and these flags
+abbrev pub command_with : Text → Values → Flags → Option Command
+command_with name value flag =
     if bytes_eq name (codes "check") then Some Check
     else (if bytes_eq name (codes "meaning") then option_map Meaning (meaning_options value)
     else (if bytes_eq name (codes "compile") then Some Compile
@@ -139,12 +161,12 @@ command_with name value summary =
     else (if bytes_eq name (codes "run") then option_map Run (run_options value)
     else (if bytes_eq name (codes "exec") then option_map Exec (run_options value)
     else (if bytes_eq name (codes "tags") then tags value
-    else (if bytes_eq name (codes "explain") then explain value
-    else (if bytes_eq name (codes "judge") then option_map Judge (run_options value)
-    else (if bytes_eq name (codes "make") then option_map Make (make value summary)
+    else (if bytes_eq name (codes "explain") then option_map Explain (explain value flag)
+    else (if bytes_eq name (codes "judge") then option_map Judge (judge value flag)
+    else (if bytes_eq name (codes "make") then option_map Make (make value flag)
     else None))))))))))
 
 -- the command that the words are
 unfoldable pub command : List Text → Option Command
 command words = option_and_then (λ read.
-    command_with read.0 (λ name. given_value name read.1) (has_option (codes "summary") read.1)) (parsed words)
+    command_with read.0 (λ name. given_value name read.1) (λ name. has_option name read.1)) (parsed words)

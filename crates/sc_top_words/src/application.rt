@@ -1,5 +1,5 @@
-ghost use Rattle.sc_top_words.specs.Prelude.{IsArgumentOf, IsCommandOf, app_of, application, flag_rule, make_form};
-ghost use Rattle.sc_top_words.specs.Prelude.{object_form, top, valued_rule, with_values};
+ghost use Rattle.sc_top_words.specs.Prelude.{IsArgumentOf, IsCommandOf, app_of, application, explain_form, flag_rule};
+ghost use Rattle.sc_top_words.specs.Prelude.{judge_form, make_form, object_form, top, valued_rule, with_values};
 ghost use Rattle.std.specs.Prelude.{◌≡◌, ◌∷◌, [], codes, true, false, IfOk};
 
 use clap::{Arg, ArgAction, Command};
@@ -19,7 +19,7 @@ pub(crate) fn application<'a>(alloc: Global) -> Result<Command<'a>, AllocError>
         .subcommand(running(alloc, "exec", "steps")?)?
         .subcommand(tags(alloc)?)?
         .subcommand(explain(alloc)?)?
-        .subcommand(running(alloc, "judge", "steps")?)?
+        .subcommand(judge(alloc)?)?
         .subcommand(make(alloc)?)
 }
 
@@ -53,10 +53,17 @@ fn tags<'a>(alloc: Global) -> Result<Command<'a>, AllocError>
 }
 
 fn explain<'a>(alloc: Global) -> Result<Command<'a>, AllocError>
-    ensures { IfOk result (IsCommandOf (codes "explain")
-        (with_values (codes "steps" ∷ codes "events" ∷ codes "in" ∷ codes "show" ∷ []))) }
+    ensures { IfOk result (IsCommandOf (codes "explain") explain_form) }
 {
-    running(alloc, "explain", "steps")?.arg(valued(alloc, "show"))
+    running(alloc, "explain", "steps")?
+        .arg(valued(alloc, "show"))?
+        .arg(flags(alloc, "image"))
+}
+
+fn judge<'a>(alloc: Global) -> Result<Command<'a>, AllocError>
+    ensures { IfOk result (IsCommandOf (codes "judge") judge_form) }
+{
+    running(alloc, "judge", "steps")?.arg(flags(alloc, "image"))
 }
 
 fn object<'a>(alloc: Global) -> Result<Command<'a>, AllocError>

@@ -22,11 +22,10 @@ pub enum Command {
     Exec(RunOptions),
     /// What the machine with tags does on an image, where the bytes of a range, if there is one, are tagged as data.
     Tags(RunOptions, Option<DataRange>),
-    /// The events of the machine on a program, and the chain of texts that accounts for them. With a number, the text
-    /// of the chain that is to be written in place of that report, at most 32.
-    Explain(RunOptions, Option<u32>),
+    /// The events of the machine on a program, and the chain of texts that accounts for them.
+    Explain(ExplainOptions),
     /// The same report for a text that follows a policy, and what the policy says of these events.
-    Judge(RunOptions),
+    Judge(JudgeOptions),
     /// A program that is made from a seed.
     Make(MakeOptions),
 }
@@ -68,6 +67,24 @@ pub struct RunOptions {
     pub events: u32,
     /// At most 65,536 of them.
     pub inputs: Items<i32>,
+}
+
+/// How `explain` accounts for a run.
+#[derive(Debug, Drop)]
+pub struct ExplainOptions {
+    pub run: RunOptions,
+    /// Whether an image stands before the text. Then the machine runs that image.
+    pub image: bool,
+    /// Which text of the chain is written in place of the report, 0 to 32.
+    pub show: Option<u32>,
+}
+
+/// How `judge` accounts for a run.
+#[derive(Debug, Drop)]
+pub struct JudgeOptions {
+    pub run: RunOptions,
+    /// Whether an image stands between the policy and the text. Then the machine runs that image.
+    pub image: bool,
 }
 
 /// Bytes that are tagged as data of a compartment.

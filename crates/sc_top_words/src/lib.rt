@@ -6,14 +6,15 @@
 //! | `meaning` | `--turns N`, `--events M`, `--in LIST` |
 //! | `compile`, `link` | none |
 //! | `object` | `--section C` |
-//! | `run`, `exec`, `judge` | `--steps N`, `--events M`, `--in LIST` |
+//! | `run`, `exec` | `--steps N`, `--events M`, `--in LIST` |
 //! | `tags` | `--steps N`, `--events M`, `--in LIST`, `--data START,BYTES,C` |
-//! | `explain` | `--steps N`, `--events M`, `--in LIST`, `--show K` |
+//! | `explain` | `--steps N`, `--events M`, `--in LIST`, `--show K`, `--image` |
+//! | `judge` | `--steps N`, `--events M`, `--in LIST`, `--image` |
 //! | `make` | `--size K`, `--seed N`, `--summary` |
 //!
 //! The first word is the command. An option is written `--name value` or `--name=value`, in any order, and at most
-//! once. A value in a word of its own doesn't begin with a hyphen. `--summary` is a flag. `make` needs its other two,
-//! and `object` its one.
+//! once. A value in a word of its own doesn't begin with a hyphen. `--image` and `--summary` are flags, which have
+//! no value. `make` needs its other two, and `object` its one.
 //! Every other word makes the words no command, also `--`, `-h`, `--help`, `help` and an abbreviation.
 //!
 //! | value | what it may be | where the option isn't given |
@@ -41,7 +42,10 @@ mod read;
 mod usage_text;
 mod values;
 
-pub use command::{Command, DataRange, MakeOptions, MeaningOptions, ObjectOptions, RunOptions};
+pub use command::{
+    Command, DataRange, ExplainOptions, JudgeOptions, MakeOptions, MeaningOptions, ObjectOptions,
+    RunOptions,
+};
 pub use fault::WordsFault;
 pub use read::read_command;
 pub use usage_text::usage;

@@ -26,6 +26,7 @@ options, each at most once; in parentheses what holds where one is not given
   --in LIST    likewise: 1 to 65536 signed 32-bit inputs (none), as --in=-5,3
   --data S,B,C tags: B bytes from address S on are compartment C's data (none)
   --show K     explain: only the text after K replacements, 0 to 32
+  --image      explain, judge: run the image that stands before the text
   --section C  object, needed: the name of the section
   --size K     make, needed: how many functions, 1 to 1000
   --seed N     make, needed: which program, 0 to 4294967295

@@ -1,15 +1,15 @@
-ghost use Rattle.sc_top_words.specs.Prelude.{command_with, data_range, events, explain, flag_text, found_of};
-ghost use Rattle.sc_top_words.specs.Prelude.{inputs, limit, make};
-ghost use Rattle.sc_top_words.specs.Prelude.{meaning_options, number_within, object, run_options, section};
-ghost use Rattle.sc_top_words.specs.Prelude.{section_name, tags, text_to_show};
-ghost use Rattle.std.specs.Prelude.{◌≡◌, Bool, true, Some, None, IfOk, IsErrOf, codes, option_and_then, option_map};
-ghost use Rattle.std.specs.Str.{bytes_eq};
+ghost use Rattle.sc_base.specs.Prelude.{Text};
+ghost use Rattle.sc_top_words.specs.Prelude.{HasFlags, IsFlag, command_with, data_range, events, explain, flag_text};
+ghost use Rattle.sc_top_words.specs.Prelude.{found_of, inputs, judge, limit, make, meaning_options, number_within};
+ghost use Rattle.sc_top_words.specs.Prelude.{object, run_options, section, section_name, tags, text_to_show};
+ghost use Rattle.std.specs.Prelude.{◌≡◌, Bool, Some, None, IfOk, IsErrOf, codes, option_and_then, option_map};
 ghost use Rattle.clap.specs.Words.{first_value, one_text};
 
 use crate::numbers::{read_list, read_number};
 use crate::ranges::read_range;
 use crate::{
-    Command, DataRange, MakeOptions, MeaningOptions, ObjectOptions, RunOptions, WordsFault,
+    Command, DataRange, ExplainOptions, JudgeOptions, MakeOptions, MeaningOptions, ObjectOptions,
+    RunOptions, WordsFault,
 };
 use clap::ArgMatches;
 use sc_base::Name;
@@ -28,14 +28,10 @@ pub(crate) fn command_with(
     name: &str,
     options: &ArgMatches<'_>,
 ) -> Result<Command, WordsFault>
-    ensures ok { (summary : Bool)
-        → (bytes_eq name.now (codes "make") ≡ true → one_text (found_of options.now) (codes "summary") ≡
-        Some (flag_text summary))
-        → IfOk result (λ read. command_with name.now (first_value (found_of options.now)) summary ≡ Some read) }
-    ensures usage { (summary : Bool)
-        → (bytes_eq name.now (codes "make") ≡ true → one_text (found_of options.now) (codes "summary") ≡
-        Some (flag_text summary))
-        → IsErrOf result WordsFault.Usage → command_with name.now (first_value (found_of options.now)) summary ≡ None }
+    ensures ok { (flag : Text → Bool) → HasFlags name.now (found_of options.now) flag
+        → IfOk result (λ read. command_with name.now (first_value (found_of options.now)) flag ≡ Some read) }
+    ensures usage { (flag : Text → Bool) → HasFlags name.now (found_of options.now) flag
+        → IsErrOf result WordsFault.Usage → command_with name.now (first_value (found_of options.now)) flag ≡ None }
 {
     if name == "check" {
         Ok(Command::Check)
@@ -56,7 +52,7 @@ pub(crate) fn command_with(
     } else if name == "explain" {
         explain(alloc, options)
     } else if name == "judge" {
-        Ok(Command::Judge(run_options(alloc, options)?))
+        judge(alloc, options)
     } else if name == "make" {
         make(options)
     } else {
@@ -103,12 +99,28 @@ fn tags(alloc: Global, options: &ArgMatches<'_>) -> Result<Command, WordsFault>
 }
 
 fn explain(alloc: Global, options: &ArgMatches<'_>) -> Result<Command, WordsFault>
-    ensures ok { IfOk result (λ read. explain (first_value (found_of options.now)) ≡ Some read) }
-    ensures usage { IsErrOf result WordsFault.Usage → explain (first_value (found_of options.now)) ≡ None }
+    ensures ok { (flag : Text → Bool) → IsFlag (found_of options.now) flag (codes "image")
+        → IfOk result (λ read. option_map Command.Explain (explain (first_value (found_of options.now)) flag) ≡
+        Some read) }
+    ensures usage { (flag : Text → Bool) → IsErrOf result WordsFault.Usage
+        → explain (first_value (found_of options.now)) flag ≡ None }
 {
     let run = run_options(alloc, options)?;
+    let image = is_set(options, "image");
     let show = text_to_show(options).ok_or(WordsFault::Usage)?;
-    Ok(Command::Explain(run, show))
+    Ok(Command::Explain(ExplainOptions { run, image, show }))
+}
+
+fn judge(alloc: Global, options: &ArgMatches<'_>) -> Result<Command, WordsFault>
+    ensures ok { (flag : Text → Bool) → IsFlag (found_of options.now) flag (codes "image")
+        → IfOk result (λ read. option_map Command.Judge (judge (first_value (found_of options.now)) flag) ≡
+        Some read) }
+    ensures usage { (flag : Text → Bool) → IsErrOf result WordsFault.Usage
+        → judge (first_value (found_of options.now)) flag ≡ None }
+{
+    let run = run_options(alloc, options)?;
+    let image = is_set(options, "image");
+    Ok(Command::Judge(JudgeOptions { run, image }))
 }
 
 fn object(options: &ArgMatches<'_>) -> Result<Command, WordsFault>
@@ -121,20 +133,26 @@ fn object(options: &ArgMatches<'_>) -> Result<Command, WordsFault>
 }
 
 fn make(options: &ArgMatches<'_>) -> Result<Command, WordsFault>
-    ensures ok { (summary : Bool) → one_text (found_of options.now) (codes "summary") ≡ Some (flag_text summary)
-        → IfOk result (λ read. option_map Command.Make (make (first_value (found_of options.now)) summary) ≡
-        Some read) }
-    ensures usage { (summary : Bool) → IsErrOf result WordsFault.Usage
-        → make (first_value (found_of options.now)) summary ≡ None }
+    ensures ok { (flag : Text → Bool) → IsFlag (found_of options.now) flag (codes "summary")
+        → IfOk result (λ read. option_map Command.Make (make (first_value (found_of options.now)) flag) ≡ Some read) }
+    ensures usage { (flag : Text → Bool) → IsErrOf result WordsFault.Usage
+        → make (first_value (found_of options.now)) flag ≡ None }
 {
     let size = number_of(options, "size", 1, 1_000).ok_or(WordsFault::Usage)?;
     let seed = number_of(options, "seed", 0, u32::MAX).ok_or(WordsFault::Usage)?;
-    let summary = options.get_flag("summary");
+    let summary = is_set(options, "summary");
     Ok(Command::Make(MakeOptions {
         size,
         seed,
         summary,
     }))
+}
+
+// Whether the flag is given.
+fn is_set(options: &ArgMatches<'_>, name: &str) -> bool
+    ensures { (given : Bool) → one_text (found_of options.now) name.now ≡ Some (flag_text given) → result ≡ given }
+{
+    options.get_flag(name)
 }
 
 fn number_of(options: &ArgMatches<'_>, name: &str, low: u32, high: u32) -> Option<u32>

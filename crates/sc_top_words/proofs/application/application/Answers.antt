@@ -1,6 +1,6 @@
 use Rattle.sc_top_words.proofs.Common.{App, Form, IfOk-weaker, IsCommandOf, List, Shape, Text, [], ap, app_of, ap₂}
 use Rattle.sc_top_words.proofs.Common.{codes, false, make_form, shape_with, top, ◌++◌, ◌∙◌, ◌∷◌, ◌≡◌}
-use Rattle.sc_top_words.specs.Prelude.{object_form, with_values}
+use Rattle.sc_top_words.specs.Prelude.{explain_form, judge_form, object_form, with_values}
 use Rattle.clap.specs.Words.{AddsSubcommand, with_subcommand}
 use Rattle.clap.specs.declared.builder.command.Command.{Command}
 use Rattle.sc_top_words.proofs.application.application.Goals as goal
@@ -38,10 +38,8 @@ returns c =
     let eight = added _ _ _ _ (codes "tags") (with_values
     (codes "steps" ∷ codes "events" ∷ codes "in" ∷ codes "data" ∷
     [])) c.in_ok-subcommand-8.ensures seven c.in_ok-tags.ensures in
-    let nine = added _ _ _ _ (codes "explain") (with_values
-    (codes "steps" ∷ codes "events" ∷ codes "in" ∷ codes "show" ∷
-    [])) c.in_ok-subcommand-9.ensures eight c.in_ok-explain.ensures in
-    let ten = added _ _ _ _ (codes "judge") (limited (codes "steps")) c.in_ok-subcommand-10.ensures nine
-    c.in_ok-running-4.ensures in
+    let nine = added _ _ _ _ (codes "explain") explain_form c.in_ok-subcommand-9.ensures eight
+    c.in_ok-explain.ensures in
+    let ten = added _ _ _ _ (codes "judge") judge_form c.in_ok-subcommand-10.ensures nine c.in_ok-judge.ensures in
     IfOk-weaker c.subcommand-11.result _ _ (λ secomp adds.
     added _ _ secomp _ (codes "make") make_form adds ten c.in_ok-make.ensures) c.subcommand-11.ensures
