@@ -7,6 +7,8 @@ use Rattle.sc_chain.proofs.Common.{joined_text}
 use Rattle.sc_chain.proofs.Common.{legal, length, list_any, map, meaning, new_text, new_texts, performing}
 use Rattle.sc_chain.proofs.Common.{performing_text, recomposed, recursion_from_All, refl, replacement_of, subst, suc}
 use Rattle.sc_chain.proofs.Common.{sym, text_for, true, ℕ, ◌++◌, ◌<◌, ◌==◌, ◌||◌, ◌∙◌, ◌∷◌, ◌≡◌, ◌≤◌}
+use Rattle.std.proofs.lemmas.Result.{IfOk-weaker}
+use Rattle.std.specs.Prelude.{IfOk, Result}
 use Rattle.sc_lex.specs.Prelude.{IsSplit}
 use Rattle.sc_parse_read.proofs.Splits.{same_parts, same_preamble}
 use Rattle.sc_chain.proofs.Accepted as accepted
@@ -104,13 +106,13 @@ is_replaced one_program source trace comps new is allowed few words known read b
     }
 
 -- the text that is put together
-pub text_so : (source : SourceParts) (trace : List Event) (comps : List ℕ) (program : ProgramTree)
-    (interfaces : Interfaces) (made handed : List Replacement) (text bytes : List ℕ) → program ≡ source.program →
+pub text_so : {E : Type 0} (result : Result (List ℕ) E) (source : SourceParts) (trace : List Event) (comps : List ℕ)
+    (program : ProgramTree) (interfaces : Interfaces) (made handed : List Replacement) → program ≡ source.program →
     interfaces ≡ program.interfaces → made ≡ map (replacement_of interfaces trace) comps → handed ≡ made →
-    text ≡ joined_text source (text_for handed) → bytes ≡ text → bytes ≡ recomposed source trace (is_listed comps)
-text_so source trace comps program interfaces made handed text bytes program_is interfaces_are made_are handed_are
-    text_is bytes_are =
-    bytes_are ∙ text_is ∙
+    IfOk result (λ text. text ≡ joined_text source (text_for handed)) →
+    IfOk result (λ text. text ≡ recomposed source trace (is_listed comps))
+text_so result source trace comps program interfaces made handed program_is interfaces_are made_are handed_are =
+    IfOk-weaker result _ _ (λ text text_is. text_is ∙
     ap (λ items. joined_text source (text_for items)) (handed_are ∙ made_are ∙
     ap (λ i. map (replacement_of i trace) comps) (interfaces_are ∙ ap (λ (p : ProgramTree). p.interfaces) program_is)) ∙
-    joined_is source trace comps
+    joined_is source trace comps)

@@ -3,7 +3,7 @@ pub use Rattle.sc_event.specs.Prelude.{is_listed, legal, part}
 pub use Rattle.sc_types.specs.Prelude.{Accepts, IsSource}
 pub use Rattle.sc_chain.specs.Chain.{HasProgram, Includes, IsAccountOf, IsChain, IsChainFrom, IsChainWith}
 pub use Rattle.sc_chain.specs.Chain.{IsExplained, IsImageExplained, IsNext, MeansTrace}
-pub use Rattle.sc_chain.specs.Faults.{IsFault, IsImageFault}
+pub use Rattle.sc_chain.specs.Faults.{IsAnotherProgram, IsFault, IsImageFault}
 pub use Rattle.sc_chain.specs.Following.{IsNextLink, IsNextOf}
 pub use Rattle.sc_chain.specs.Recompose.{joined_text, performing, performing_text, recomposed, text_for}
 pub use Rattle.sc_chain.specs.Replaced.{IsReplaced, IsScripted}

@@ -10,4 +10,4 @@ mod replacing;
 pub use account::{explain, explain_image};
 pub use composed::{Replacement, recompose};
 pub use fault::{ExplainFault, ImageFault};
-pub use replacing::replaced;
+pub use replacing::{recomposed_text, replaced};

@@ -2,7 +2,7 @@
 
 ghost use Rattle.sc_base.specs.Prelude.{most_events};
 ghost use Rattle.sc_chain.specs.Prelude.{Accepts, IsReplaced, IsScripted, IsSource, is_listed, legal, part};
-ghost use Rattle.sc_chain.specs.Prelude.{performing_text, replacement_of};
+ghost use Rattle.sc_chain.specs.Prelude.{performing_text, recomposed, replacement_of};
 ghost use Rattle.std.specs.Prelude.{◌≡◌, ◌<◌, ◌≤◌, ◌^◌, true, length, map, All, IfOk};
 ghost use Rattle.sc_core.specs.declared.program.ProgramTree.{ProgramTree};
 ghost use Rattle.sc_back_replay_laws.specs.Replay.{HasWords};
@@ -97,8 +97,22 @@ fn read_accepted(alloc: Global, text: &[u8]) -> Result<SourceText, OutOfMemory>
     }
 }
 
-/// The text in which these compartments perform their parts of a trace, in place of running their functions; one may be
-/// named twice. The text is accepted, and means what the compartments' scripts say, whether or not memory
+/// The text in which these compartments perform their parts of a trace, in place of running their functions. A
+/// compartment may be named twice.
+pub fn recomposed_text(
+    alloc: Global,
+    source: &SourceText,
+    trace: &[Event],
+    comps: &[CompId],
+) -> Result<Text, OutOfMemory>
+    requires { length trace.now ≤ most_events }
+    ensures { IfOk result (λ text. text ≡ recomposed source.now trace.now (is_listed comps.now)) }
+{
+    let replacements = replacements(alloc, source.program().interfaces(), trace, comps)?;
+    recompose(alloc, source, replacements.as_slice())
+}
+
+/// The same text, as it is read. It is accepted, and means what the compartments' scripts say, whether or not memory
 /// suffices to write it.
 pub fn replaced(
     alloc: Global,
@@ -115,8 +129,8 @@ pub fn replaced(
 {
     have_words(trace);
     one_program();
-    let replacements = replacements(alloc, source.program().interfaces(), trace, comps)?;
-    let text = recompose(alloc, source, replacements.as_slice())?;
+    source.program();
+    let text = recomposed_text(alloc, source, trace, comps)?;
     let new = read_accepted(alloc, text.as_bytes())?;
     Ok(new)
 }

@@ -1,11 +1,6 @@
 use Rattle.sc_chain.proofs.Common.{Accepts, List, ProgramTree, subst, sym, ℕ, ◌∙◌}
-use Rattle.sc_chain.proofs.Recomposed.{is_scripted, is_replaced, text_so}
+use Rattle.sc_chain.proofs.Recomposed.{is_scripted, is_replaced}
 use Rattle.sc_chain.proofs.replacing.replaced.Goals as goal
-
-pub returns-in_err-replacements-clause-scripted : goal.returns-in_err-replacements-clause-scripted
-returns-in_err-replacements-clause-scripted c =
-    is_scripted c.args.source.now c.args.trace.now c.args.comps.now c.program.ensures.source c.requires.allowed
-    c.requires.few c.have_words.ensures c.requires.known
 
 pub returns-in_err-text-clause-scripted : goal.returns-in_err-text-clause-scripted
 returns-in_err-text-clause-scripted c =
@@ -15,10 +10,7 @@ returns-in_err-text-clause-scripted c =
 pub read_accepted-requires : goal.read_accepted-requires
 read_accepted-requires c =
     subst (λ (bytes : List ℕ). (program : ProgramTree) × Accepts bytes program)
-    (sym (text_so c.args.source.now c.args.trace.now c.args.comps.now c.program.result.now c.interfaces.result.now
-    c.in_ok-replacements.replacements c.as_slice.result.now c.in_ok-text.text c.as_bytes.result.now
-    c.program.ensures.program c.interfaces.ensures c.in_ok-replacements.ensures c.as_slice.ensures
-    c.in_ok-text.ensures c.as_bytes.ensures))
+    (sym (c.as_bytes.ensures ∙ c.in_ok-text.ensures))
     (let made = is_scripted c.args.source.now c.args.trace.now c.args.comps.now c.program.ensures.source
     c.requires.allowed c.requires.few c.have_words.ensures c.requires.known in (made.0, made.1.accepted))
 
@@ -37,8 +29,4 @@ returns-clause-replaced c =
     is_replaced c.one_program.ensures c.args.source.now c.args.trace.now c.args.comps.now c.in_ok-new.new
     c.program.ensures.source c.requires.allowed c.requires.few c.have_words.ensures c.requires.known
     c.in_ok-new.ensures.source
-    (c.in_ok-new.ensures.bytes ∙
-    text_so c.args.source.now c.args.trace.now c.args.comps.now c.program.result.now c.interfaces.result.now
-    c.in_ok-replacements.replacements c.as_slice.result.now c.in_ok-text.text c.as_bytes.result.now
-    c.program.ensures.program c.interfaces.ensures c.in_ok-replacements.ensures c.as_slice.ensures
-    c.in_ok-text.ensures c.as_bytes.ensures)
+    (c.in_ok-new.ensures.bytes ∙ (c.as_bytes.ensures ∙ c.in_ok-text.ensures))
