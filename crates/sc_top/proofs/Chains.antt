@@ -1,109 +1,88 @@
 -- Chains of texts: what stands in their texts, and that a run has one account.
-use Rattle.sc_top.proofs.Common.{Accepts, All-from_recursion, AllByRecursion, ArePerforming, Bool, CompileFault, Err}
-use Rattle.sc_top.proofs.Common.{Event, Explanation, IfOk, ImageParts, IsAccounted, IsChainFrom, IsExplained, IsNext}
-use Rattle.sc_top.proofs.Common.{IsSource, IsSplitInto, IsSummary, Link, List, MakeOptions, MeansTrace, None, Ok}
-use Rattle.sc_top.proofs.Common.{Option, ProgramTree, Result, RunOptions, Some, SourceParts, [], account, is_listed, ap}
-use Rattle.sc_top.proofs.Common.{ap₂, arith, comp_of, concat, false, if◌then◌else◌, joined_text, length, machine, map}
-use Rattle.sc_top.proofs.Common.{meaning, performing, performing_text, recomposed, recursion_from_All, refl}
-use Rattle.sc_top.proofs.Common.{replacement_of, subst, suc, summary_text, sym, take, text_after, text_for, true}
-use Rattle.sc_top.proofs.Common.{HasExplanation, IsJudged, IsPolicyRead, PolicyRead, drop, judge_text, performers}
-use Rattle.sc_top.proofs.Common.{word_of, zero, ℕ, ◌++◌, ◌==◌, ◌||◌, ◌∙◌, ◌∷◌, ◌≡◌, ◌≤◌}
-use Rattle.std.proofs.lemmas.Bool.Decides.{Decides-eqb}
-use Rattle.sc_chain.specs.declared.composed.Replacement.{Replacement}
+use Rattle.sc_top.proofs.Common.{Accepts, AreImageAndText, BeginsWithImage, Bool, CompileFault, Event, ExplainOptions}
+use Rattle.sc_top.proofs.Common.{Explanation, HasAccount, HasAccountIn, ImageParts, IsAccounted, IsAccountFor}
+use Rattle.sc_top.proofs.Common.{IsChainFrom, IsExplained, IsExplainedOn, IsImageExplained, IsJudged, IsNext}
+use Rattle.sc_top.proofs.Common.{IsPolicyRead, IsSource, IsSplitInto, IsSummary, JudgeOptions, Link, List, MakeOptions}
+use Rattle.sc_top.proofs.Common.{MeansTrace, None, Ok, Option, PolicyRead, ProgramTree, Result, RunOptions, Some}
+use Rattle.sc_top.proofs.Common.{SourceParts, [], account, ap, ap₂, arith, drop, false, is_listed, judge_text, length}
+use Rattle.sc_top.proofs.Common.{machine, map, meaning, performers, performing_text, recomposed, refl, subst, suc}
+use Rattle.sc_top.proofs.Common.{summary_text, sym, take, true, word_of, zero, ℕ, ◌∙◌, ◌∷◌, ◌≡◌, ◌≤◌}
 use Rattle.sc_core.specs.declared.run.RunEnd.{RunEnd}
 use Rattle.sc_core.specs.declared.run.RunEnd.TheVariants.{Blamed}
+use Rattle.sc_image.specs.Prelude.{AreGiven}
 use Rattle.sc_lex.specs.declared.section.Section.{Section}
 use Rattle.sc_parse_read.specs.Reading.{part_of}
 use Rattle.sc_parse_read.proofs.Splits.{same_parts, same_preamble}
-use Rattle.sc_chain.proofs.Recomposed.{new_texts_same}
+use Rattle.sc_top.specs.declared.account.Account.{Account}
+use Rattle.sc_top.proofs.Parts.{one_part}
+use Rattle.sc_top.proofs.Rising.{one_rising}
 
 -- THE TEXTS
 
-same_number : (a b : ℕ) → (a == b) ≡ true → a ≡ b
-same_number a b is = (Decides-eqb a b).0 is
+module _ (source : SourceParts) (options : RunOptions) (explanation : Explanation) where
+  abbrev inputs : List ℕ
+  inputs = map word_of options.inputs
 
-module _ (source : SourceParts) (trace : List Event) where
-  abbrev Performs : Link → Type 0
-  Performs link = link.text ≡ performing_text source.program.interfaces trace link.comp
+  -- where the text isn't too long to be compiled, no text of the chain is too long to be read
+  shorts : (image : Option ImageParts) → IsExplainedOn image source options explanation →
+      length source.bytes ≤ 1048576 → (set : ℕ → Bool) →
+      length (recomposed source explanation.trace set) ≤ 8388608
+  shorts None is = is.short
+  shorts (Some image) is = is.account.short
 
-  -- the links of a chain perform
-  from_chain : (inputs : List ℕ) (steps : ℕ) (links : List Link) (comps : List ℕ) (least : ℕ) →
-      IsChainFrom source inputs steps trace comps least links → AllByRecursion Performs links
-  from_chain inputs steps [] comps least chain = tt
-  from_chain inputs steps (link ∷ links) comps least chain = (
-    chain.0.performs,
-    from_chain inputs steps links (link.comp ∷ comps) (suc link.after) chain.1,
-  )
+  -- the links lead on from the text in which the given compartments perform
+  pub chain_from_given : (image : Option ImageParts) → IsExplainedOn image source options explanation →
+      IsChainFrom source inputs options.steps explanation.trace explanation.given 0 explanation.links
+  chain_from_given None is =
+      subst (λ given. IsChainFrom source inputs options.steps explanation.trace given 0 explanation.links)
+      (sym is.nobody_given) is.chain.chain
+  chain_from_given (Some image) is = is.account.chain.chain
 
-  first_perform : (n : ℕ) (links : List Link) → AllByRecursion Performs links → AllByRecursion Performs (take n links)
-  first_perform zero links all = tt
-  first_perform (suc n) [] all = tt
-  first_perform (suc n) (link ∷ links) all = (all.0, first_perform n links all.1)
-
-  -- what stands in place of a section
-  stands : (links : List Link) → AllByRecursion Performs links → (comp : ℕ) →
-      text_for (map replacement_of links) comp
-      ≡ performing source.program.interfaces trace (is_listed (map comp_of links)) comp
-  stands [] all comp = refl
-  stands (link ∷ links) all comp = by (stands links all.1 comp) (link.comp == comp) refl where
-    by :
-        text_for (map replacement_of links) comp
-        ≡ performing source.program.interfaces trace (is_listed (map comp_of links)) comp → (same : Bool) →
-        (link.comp == comp) ≡ same →
-        (if same then Some link.text else text_for (map replacement_of links) comp)
-        ≡ (if same || is_listed (map comp_of links) comp then Some (performing_text source.program.interfaces trace
-        comp)
-        else None)
-    by others true is =
-        ap Some (all.0 ∙ ap (performing_text source.program.interfaces trace) (same_number link.comp comp is))
-    by others false is = others
-
-  joined_same : (f g : ℕ → Option (List ℕ)) → ((comp : ℕ) → f comp ≡ g comp) → joined_text source f ≡ joined_text source
-      g
-  joined_same f g same = ap (λ texts. source.preamble ++ concat texts) (new_texts_same f g same 0 source.sections)
-
--- the links of an explanation perform
-pub explained_perform : (source : SourceParts) (inputs : List ℕ) (steps events : ℕ) (explanation : Explanation) →
-    IsExplained source inputs steps events explanation →
-    ArePerforming source explanation.trace explanation.links
-explained_perform source inputs steps events explanation is =
-    All-from_recursion (Performs source _) _ (from_chain source _ inputs steps _ [] 0 is.chain.chain)
-
--- a text that was read, with an explanation
-abbrev pub has_explanation : (options : RunOptions) (bytes : List ℕ) (source : SourceParts)
+-- a text that was read, with an account
+pub has_account : (options : RunOptions) (image : Option ImageParts) (bytes : List ℕ) (source : SourceParts)
     (explanation : Explanation) → IsSource source → source.bytes ≡ bytes →
-    IsExplained source (map word_of options.inputs) options.steps options.events explanation →
-    length bytes ≤ 1048576 → HasExplanation options bytes
-has_explanation options bytes source explanation parts whole explained short = record {
+    IsExplainedOn image source options explanation → length bytes ≤ 1048576 → HasAccount options image bytes
+has_account options image bytes source explanation parts whole explained short = record {
   source = source;
   parts = parts;
   whole = whole;
   explanation = explanation;
   explained = explained;
-  short = λ links. explained.short (subst (λ (text : List ℕ). length text ≤ 1048576) (sym whole) short)
-      (performers explanation links);
+  short = λ links. shorts source options explanation image explained
+      (subst (λ (text : List ℕ). length text ≤ 1048576) (sym whole) short) (performers explanation links);
 }
 
--- the text in which the first links replace is that of the chain after them
-pub recomposed_after : (source : SourceParts) (explanation : Explanation) (links : ℕ) →
-    ArePerforming source explanation.trace explanation.links →
-    joined_text source (text_for (map replacement_of (take links explanation.links)))
-    ≡ text_after source explanation links
-recomposed_after source explanation links all =
-    joined_same source explanation.trace _ _ (stands source _ _ (first_perform source _ links _
-    (recursion_from_All _ _ all)))
+-- the account of a text that is all the bytes
+pub account_of_text : (options : RunOptions) (bytes : List ℕ) (account : Account) → IsSource account.source →
+    account.source.bytes ≡ bytes →
+    IsExplained account.source (map word_of options.inputs) options.steps options.events account.explanation →
+    length bytes ≤ 1048576 → IsAccountFor options false bytes account
+account_of_text options bytes account parts whole explained short = record {
+  found = record {
+    image = None;
+    text = bytes;
+    are = (refl, refl);
+    has = has_account options None bytes account.source account.explanation parts whole explained short;
+  };
+  source = refl;
+  explanation = refl;
+}
 
--- the same of the call that joins them
-pub printed_after : {E : Type 0} (r : Result (List ℕ) E) (source : SourceParts) (explanation : Explanation) (links : ℕ)
-    (replacements : List Replacement) →
-    replacements ≡ map replacement_of (take links explanation.links) →
-    ArePerforming source explanation.trace explanation.links →
-    IfOk r (λ text. text ≡ joined_text source (text_for replacements)) →
-    IfOk r (λ text. text ≡ text_after source explanation links)
-printed_after (Ok text) source explanation links replacements are all printed =
-    printed ∙ ap (λ replacements. joined_text source (text_for replacements)) are ∙
-    recomposed_after source explanation links all
-printed_after (Err fault) source explanation links replacements are all printed = tt
+-- the account of a text that follows an image
+pub account_of_image : (options : RunOptions) (bytes text : List ℕ) (image : ImageParts) (account : Account) →
+    BeginsWithImage bytes image text → IsSource account.source → account.source.bytes ≡ text →
+    IsImageExplained account.source image (map word_of options.inputs) options.steps options.events
+    account.explanation → length text ≤ 1048576 → IsAccountFor options true bytes account
+account_of_image options bytes text image account begins parts whole explained short = record {
+  found = record {
+    image = Some image;
+    text = text;
+    are = record { found = image; is = refl; begins = begins; short = short };
+    has = has_account options (Some image) text account.source account.explanation parts whole explained short;
+  };
+  source = refl;
+  explanation = refl;
+}
 
 -- ONE ACCOUNT
 
@@ -222,12 +201,13 @@ module _
         ap₂ (λ x xs. x ∷ xs) same (one_chain _ _ links others printed.1
         (subst (λ l. IsChainFrom source inputs steps trace (l.comp ∷ comps) (suc l.after) others) (sym same) known.1))
 
-  one_explanation : (source : SourceParts) (inputs : List ℕ) (steps events : ℕ) (explanation other : Explanation) →
+  one_explained : (source : SourceParts) (inputs : List ℕ) (steps events : ℕ) (explanation other : Explanation) →
       IsExplained source inputs steps events explanation → IsExplained source inputs steps events other →
       explanation ≡ other
-  one_explanation source inputs steps events explanation other is known = λ i. record {
+  one_explained source inputs steps events explanation other is known = λ i. record {
     trace = trace i;
     stop = stop i;
+    given = given i;
     links = links i;
   }
     where
@@ -243,42 +223,106 @@ module _
       stop : explanation.stop ≡ other.stop
       stop = is.stop ∙ ap (λ image. (machine image inputs steps events).stop) image ∙ sym known.stop
 
+      given : explanation.given ≡ other.given
+      given = is.nobody_given ∙ sym known.nobody_given
+
       links : explanation.links ≡ other.links
       links =
           one_chain source inputs steps explanation.trace [] 0 explanation.links other.links is.chain.chain
           (subst (λ (t : List Event). IsChainFrom source inputs steps t [] 0 other.links) (sym trace)
           known.chain.chain)
 
-  -- a text has one source and one explanation
-  explained_source : (options : RunOptions) (bytes others : List ℕ) → bytes ≡ others →
-      (is : HasExplanation options bytes) (known : HasExplanation options others) → is.source ≡ known.source
-  explained_source options bytes others same is known =
-      one_source is.source known.source is.parts known.parts (is.whole ∙ (same ∙ sym known.whole))
+  one_image_explained : (source : SourceParts) (image : ImageParts) (inputs : List ℕ) (steps events : ℕ)
+      (explanation other : Explanation) → IsImageExplained source image inputs steps events explanation →
+      IsImageExplained source image inputs steps events other → explanation ≡ other
+  one_image_explained source image inputs steps events explanation other is known = λ i. record {
+    trace = trace i;
+    stop = stop i;
+    given = given i;
+    links = links i;
+  }
+    where
+      owns : ◌≡◌ {A = Result ImageParts CompileFault} (Ok is.own) (Ok known.own)
+      owns = sym is.compiled ∙ known.compiled
 
-  explained_once : (options : RunOptions) (bytes others : List ℕ) → bytes ≡ others →
-      (is : HasExplanation options bytes) (known : HasExplanation options others) → is.explanation ≡ known.explanation
-  explained_once options bytes others same is known =
-      one_explanation known.source (map word_of options.inputs) options.steps options.events
-      is.explanation known.explanation
-      (subst (λ s. IsExplained s (map word_of options.inputs) options.steps options.events is.explanation)
-      (explained_source options bytes others same is known) is.explained) known.explained
+      own : is.own ≡ known.own
+      own = cc owns
 
-  -- a text has one account
-  pub one_account : (options : RunOptions) (show : Option ℕ) (bytes text other : List ℕ) →
-      IsAccounted options show bytes text → IsAccounted options show bytes other → text ≡ other
-  one_account options show bytes text other is known =
-      is.written ∙ ap₂ (account show) (explained_source options bytes bytes refl is.has known.has)
-      (explained_once options bytes bytes refl is.has known.has) ∙ sym known.written
+      trace : explanation.trace ≡ other.trace
+      trace = is.account.trace ∙ sym known.account.trace
 
-  -- so has one that follows a policy
+      stop : explanation.stop ≡ other.stop
+      stop = is.account.stop ∙ sym known.account.stop
+
+      differ : AreGiven known.own image explanation.given
+      differ = subst (λ (o : ImageParts). AreGiven o image explanation.given) own is.differ
+
+      given : explanation.given ≡ other.given
+      given = one_rising explanation.given other.given differ.ordered known.differ.ordered
+          (differ.least (is_listed other.given) known.differ.but_for)
+          (known.differ.least (is_listed explanation.given) differ.but_for)
+
+      links : explanation.links ≡ other.links
+      links =
+          one_chain source inputs steps explanation.trace explanation.given 0 explanation.links other.links
+          is.account.chain.chain
+          (subst (λ (g : List ℕ). IsChainFrom source inputs steps explanation.trace g 0 other.links) (sym given)
+          (subst (λ (t : List Event). IsChainFrom source inputs steps t other.given 0 other.links) (sym trace)
+          known.account.chain.chain))
+
+  one_explanation : (image : Option ImageParts) (source : SourceParts) (options : RunOptions)
+      (explanation other : Explanation) → IsExplainedOn image source options explanation →
+      IsExplainedOn image source options other → explanation ≡ other
+  one_explanation None source options explanation other is known =
+      one_explained source (map word_of options.inputs) options.steps options.events explanation other is known
+  one_explanation (Some image) source options explanation other is known =
+      one_image_explained source image (map word_of options.inputs) options.steps options.events explanation other is
+      known
+
+  -- bytes are one image and text at most
+  one_input : (with_image : Bool) (bytes : List ℕ) (image other : Option ImageParts) (text rest : List ℕ) →
+      AreImageAndText with_image bytes image text → AreImageAndText with_image bytes other rest →
+      (image ≡ other) × (text ≡ rest)
+  one_input true bytes image other text rest is known =
+      let same = one_part bytes is.found known.found text rest is.begins known.begins in
+      (is.is ∙ (ap Some same.0 ∙ sym known.is), same.1)
+  one_input false bytes image other text rest is known = (is.0 ∙ sym known.0, is.1 ∙ sym known.1)
+
+  -- bytes have one source and one explanation
+  module _ (with_image : Bool) (options : RunOptions) (bytes others : List ℕ) (same : bytes ≡ others)
+      (is : HasAccountIn with_image options bytes) (known : HasAccountIn with_image options others) where
+    input : (is.image ≡ known.image) × (is.text ≡ known.text)
+    input = one_input with_image others is.image known.image is.text known.text
+        (subst (λ (b : List ℕ). AreImageAndText with_image b is.image is.text) same is.are) known.are
+
+    found_source : is.has.source ≡ known.has.source
+    found_source = one_source is.has.source known.has.source is.has.parts known.has.parts
+        (is.has.whole ∙ (input.1 ∙ sym known.has.whole))
+
+    found_explanation : is.has.explanation ≡ known.has.explanation
+    found_explanation = one_explanation known.image known.has.source options is.has.explanation known.has.explanation
+        (subst (λ s. IsExplainedOn known.image s options is.has.explanation) found_source
+        (subst (λ i. IsExplainedOn i is.has.source options is.has.explanation) input.0 is.has.explained))
+        known.has.explained
+
+  -- bytes have one account
+  pub one_account : (options : ExplainOptions) (bytes text other : List ℕ) →
+      IsAccounted options bytes text → IsAccounted options bytes other → text ≡ other
+  one_account options bytes text other is known =
+      is.written ∙
+      ap₂ (account options.show) (found_source options.image options.run bytes bytes refl is.found known.found)
+      (found_explanation options.image options.run bytes bytes refl is.found known.found) ∙ sym known.written
+
+  -- so have those that follow a policy
   pub one_verdict : ((bytes : List ℕ) (one other : PolicyRead) → IsPolicyRead bytes one → IsPolicyRead bytes other →
-      one ≡ other) → (options : RunOptions) (bytes text other : List ℕ) →
+      one ≡ other) → (options : JudgeOptions) (bytes text other : List ℕ) →
       IsJudged options bytes text → IsJudged options bytes other → text ≡ other
   one_verdict one_policy options bytes text other is known =
       let read = one_policy bytes is.read known.read is.is known.is in
       let rest = ap (λ (r : PolicyRead). drop r.rest bytes) read in
-      is.written ∙ (λ i. judge_text (read i).policy (explained_source options _ _ rest is.has known.has i)
-      (explained_once options _ _ rest is.has known.has i)) ∙ sym known.written
+      is.written ∙ (λ i. judge_text (read i).policy
+      (found_source options.image options.run _ _ rest is.found known.found i)
+      (found_explanation options.image options.run _ _ rest is.found known.found i)) ∙ sym known.written
 
   -- a made program has one summary
   pub one_summary : (options : MakeOptions) (text other : List ℕ) → IsSummary options text → IsSummary options other →
@@ -286,7 +330,7 @@ module _
   one_summary options text other is known =
       let source = one_source is.source known.source is.parts known.parts (is.made ∙ sym known.made) in
       let explained = subst (λ s. IsExplained s [] 16777216 4096 _) source is.explained in
-      let explanation = one_explanation known.source [] 16777216 4096 is.explanation known.explanation explained
+      let explanation = one_explained known.source [] 16777216 4096 is.explanation known.explanation explained
       known.explained in
       is.written ∙ ap₂ (λ s (e : Explanation). summary_text options.size s.program.interfaces e) source explanation ∙
       sym known.written

@@ -1,6 +1,7 @@
 -- What an answer says of the bytes that were read and written.
 use Rattle.sc_top.specs.Common.{Accepts, Adds, Command, Fails, IsAtEnd, IsImage, ProgramTree, Refusal, Rose, Takes, bad}
-use Rattle.sc_top.specs.Common.{cause_number}
+use Rattle.sc_top.specs.Common.{IsAnotherProgram, bad_part, cause_number}
+use Rattle.sc_image.specs.declared.parts.ImageParts.{ImageParts}
 use Rattle.sc_base.specs.Prelude.{IsPrefix}
 use Rattle.std.specs.Prelude.{◌≡◌, ◌≢◌, ◌≤◌, ◌⊎◌, ◌+◌, ℕ, IsTrue, List, [], ◌++◌, length, Option, Some, None}
 use Rattle.std.specs.Prelude.{option_and_then}
@@ -11,13 +12,13 @@ use Rattle.sc_top.specs.declared.status.BadJoin as join
 use Rattle.sc_top.specs.declared.status.Status.{Status}
 use Rattle.sc_top.specs.declared.status.Status.TheVariants.{Done, Usage, Refused, TooLarge, TooLong, BadImage}
 use Rattle.sc_top.specs.declared.status.Status.TheVariants.{ReadFault, WriteFault, OutOfMemory, BadObject}
-use Rattle.sc_top.specs.declared.status.Status.TheVariants.{BadJoin, NoSection, BadPolicy}
+use Rattle.sc_top.specs.declared.status.Status.TheVariants.{BadJoin, NoSection, BadPolicy, Differs}
 use Rattle.sc_top.specs.declared.status.TooLarge as large
-use Rattle.sc_top.specs.Command.{HoldsAfterPolicy, HoldsOfText, Image, Intake, Nothing, Objects, PolicyAndText, Text}
-use Rattle.sc_top.specs.Command.{intake, limit_of}
+use Rattle.sc_top.specs.Command.{AfterPolicy, HoldsAfterImage, HoldsAfterPolicy, HoldsOfBoth, HoldsOfText, Image}
+use Rattle.sc_top.specs.Command.{ImageAndText, Intake, Nothing, Objects, Text, intake, limit_of}
 use Rattle.sc_top.specs.Large.{large_in}
 use Rattle.sc_top.specs.Objects.{CanBeLinked, HasBadJoin, HasBadObject, HasSection, comp_named, section_of}
-use Rattle.sc_top.specs.Output.{compiles, IsGoodText, IsOutput}
+use Rattle.sc_top.specs.Output.{compiles, IsGoodText, IsGoodWith, IsOutput}
 
 -- what a call saw of the outside: the bytes that were left to read and those that were written, where these are known,
 -- and the counts of faults, each before the call and after it
@@ -68,7 +69,7 @@ pub record HasBegun (command : Command) (traffic : Traffic) (bytes : List ℕ) :
   pub begins : IsPrefix prefix text
   pub part : Adds traffic.written traffic.written_after prefix
 
--- Causes: why a command has no output for its input.
+-- Causes: why a command has no output for its input. What isn't read has none.
 
 -- the text fails a phase, at a line of its own
 abbrev pub Refuses : Command → List ℕ → Refusal → Type 0
@@ -78,10 +79,15 @@ Refuses command bytes refusal = HoldsOfText (intake command) bytes (λ text. Fai
 abbrev pub cause_in : List ℕ → Option ℕ
 cause_in bytes = option_map cause_number (bad bytes)
 
+-- and for which they begin with none
+abbrev pub part_cause_in : List ℕ → Option ℕ
+part_cause_in bytes = option_map cause_number (bad_part bytes)
+
 abbrev pub IsBadIn : Intake → List ℕ → (cause : ℕ) → Type 0
 IsBadIn (Image limit) bytes cause = cause_in bytes ≡ Some cause
+IsBadIn (ImageAndText limit within) bytes cause = part_cause_in bytes ≡ Some cause
+IsBadIn (AfterPolicy following) bytes cause = HoldsAfterPolicy bytes (λ rest. IsBadIn following rest cause)
 IsBadIn (Text limit) bytes cause = ⊥
-IsBadIn (PolicyAndText limit) bytes cause = ⊥
 IsBadIn (Objects limit) bytes cause = ⊥
 IsBadIn Nothing bytes cause = ⊥
 
@@ -89,10 +95,11 @@ abbrev pub FindsBad : Command → List ℕ → (cause : ℕ) → Type 0
 FindsBad command bytes cause = IsBadIn (intake command) bytes cause
 
 abbrev pub HasBadLineIn : Intake → List ℕ → (line : ℕ) → Type 0
-HasBadLineIn (PolicyAndText limit) bytes line = HasBadLine bytes line
+HasBadLineIn (AfterPolicy following) bytes line = HasBadLine bytes line
 HasBadLineIn (Text limit) bytes line = ⊥
 HasBadLineIn (Image limit) bytes line = ⊥
 HasBadLineIn (Objects limit) bytes line = ⊥
+HasBadLineIn (ImageAndText limit within) bytes line = ⊥
 HasBadLineIn Nothing bytes line = ⊥
 
 abbrev pub FindsBadLine : Command → List ℕ → (line : ℕ) → Type 0
@@ -101,8 +108,9 @@ FindsBadLine command bytes line = HasBadLineIn (intake command) bytes line
 abbrev pub HasBadObjectIn : Intake → List ℕ → (index cause : ℕ) → Type 0
 HasBadObjectIn (Objects limit) bytes index cause = HasBadObject bytes index cause
 HasBadObjectIn (Text limit) bytes index cause = ⊥
-HasBadObjectIn (PolicyAndText limit) bytes index cause = ⊥
 HasBadObjectIn (Image limit) bytes index cause = ⊥
+HasBadObjectIn (ImageAndText limit within) bytes index cause = ⊥
+HasBadObjectIn (AfterPolicy following) bytes index cause = ⊥
 HasBadObjectIn Nothing bytes index cause = ⊥
 
 abbrev pub FindsBadObject : Command → List ℕ → (index cause : ℕ) → Type 0
@@ -111,8 +119,9 @@ FindsBadObject command bytes index cause = HasBadObjectIn (intake command) bytes
 abbrev pub HasBadJoinIn : Intake → List ℕ → join.BadJoin → Type 0
 HasBadJoinIn (Objects limit) bytes fault = HasBadJoin bytes fault
 HasBadJoinIn (Text limit) bytes fault = ⊥
-HasBadJoinIn (PolicyAndText limit) bytes fault = ⊥
 HasBadJoinIn (Image limit) bytes fault = ⊥
+HasBadJoinIn (ImageAndText limit within) bytes fault = ⊥
+HasBadJoinIn (AfterPolicy following) bytes fault = ⊥
 HasBadJoinIn Nothing bytes fault = ⊥
 
 abbrev pub FindsBadJoin : Command → List ℕ → join.BadJoin → Type 0
@@ -140,6 +149,37 @@ pub record IsUnfit (command : Command) (text : List ℕ) (fault : large.TooLarge
 abbrev pub FindsUnfit : Command → List ℕ → large.TooLarge → Type 0
 FindsUnfit command bytes fault = HoldsOfText (intake command) bytes (λ text. IsUnfit command text fault)
 
+-- the text that follows an image is longer than it may be
+abbrev pub HasLongTextIn : Intake → List ℕ → (limit : ℕ) → Type 0
+HasLongTextIn (ImageAndText limit within) bytes most =
+    (within ≡ most) × HoldsAfterImage bytes (λ image text. within + 1 ≤ length text)
+HasLongTextIn (AfterPolicy following) bytes most = HoldsAfterPolicy bytes (λ rest. HasLongTextIn following rest most)
+HasLongTextIn (Text limit) bytes most = ⊥
+HasLongTextIn (Image limit) bytes most = ⊥
+HasLongTextIn (Objects limit) bytes most = ⊥
+HasLongTextIn Nothing bytes most = ⊥
+
+abbrev pub FindsLongText : Command → List ℕ → (limit : ℕ) → Type 0
+FindsLongText command bytes limit = HasLongTextIn (intake command) bytes limit
+
+-- the text is accepted, its program fits, and for no set of given compartments the image is the program's own but for
+-- them
+pub record IsOfAnother (image : ImageParts) (text : List ℕ) : Type 0 where
+  pub program : ProgramTree
+  pub accepted : Accepts text program
+  pub another : IsAnotherProgram program image
+
+abbrev pub DiffersIn : Intake → List ℕ → Type 0
+DiffersIn (ImageAndText limit within) bytes = HoldsOfBoth within bytes IsOfAnother
+DiffersIn (AfterPolicy following) bytes = HoldsAfterPolicy bytes (DiffersIn following)
+DiffersIn (Text limit) bytes = ⊥
+DiffersIn (Image limit) bytes = ⊥
+DiffersIn (Objects limit) bytes = ⊥
+DiffersIn Nothing bytes = ⊥
+
+abbrev pub FindsAnother : Command → List ℕ → Type 0
+FindsAnother command bytes = DiffersIn (intake command) bytes
+
 -- What each status says.
 
 -- with a command, what was read and written where it was answered so
@@ -148,13 +188,16 @@ Says command traffic Done = HasRead command traffic (HasWritten command traffic)
 Says command traffic Usage = ⊥
 Says command traffic (Refused refusal) = HasRead command traffic (λ bytes. Refuses command bytes refusal)
 Says command traffic (TooLarge fault) = HasRead command traffic (λ bytes. FindsUnfit command bytes fault)
-Says command traffic (TooLong limit) = (limit_of command ≡ Some limit) × IsLonger limit traffic.left traffic.left_after
+Says command traffic (TooLong limit) =
+    ((limit_of command ≡ Some limit) × IsLonger limit traffic.left traffic.left_after) ⊎
+    HasRead command traffic (λ bytes. FindsLongText command bytes limit)
 Says command traffic (BadImage cause) = HasRead command traffic (λ bytes. FindsBad command bytes cause)
 Says command traffic (BadObject index cause) =
     HasRead command traffic (λ bytes. FindsBadObject command bytes index cause)
 Says command traffic (BadJoin fault) = HasRead command traffic (λ bytes. FindsBadJoin command bytes fault)
 Says command traffic (NoSection name) = HasRead command traffic (λ bytes. FindsNoSection command bytes name)
 Says command traffic (BadPolicy line) = HasRead command traffic (λ bytes. FindsBadLine command bytes line)
+Says command traffic Differs = HasRead command traffic (FindsAnother command)
 Says command traffic ReadFault = Rose traffic.read_faults traffic.read_faults_after
 Says command traffic WriteFault =
     Rose traffic.write_faults traffic.write_faults_after × HasRead command traffic (HasBegun command traffic)
@@ -178,22 +221,27 @@ abbrev pub IsAnswer : Command → List ℕ → Status → Type 0
 IsAnswer command bytes Done = IsWithin command bytes × ((text : List ℕ) × IsOutput command bytes text)
 IsAnswer command bytes (Refused refusal) = IsWithin command bytes × Refuses command bytes refusal
 IsAnswer command bytes (TooLarge fault) = IsWithin command bytes × FindsUnfit command bytes fault
-IsAnswer command bytes (TooLong limit) = (limit_of command ≡ Some limit) × (limit + 1 ≤ length bytes)
+IsAnswer command bytes (TooLong limit) =
+    ((limit_of command ≡ Some limit) × (limit + 1 ≤ length bytes)) ⊎
+    (IsWithin command bytes × FindsLongText command bytes limit)
 IsAnswer command bytes (BadImage cause) = IsWithin command bytes × FindsBad command bytes cause
 IsAnswer command bytes (BadObject index cause) = IsWithin command bytes × FindsBadObject command bytes index cause
 IsAnswer command bytes (BadJoin fault) = IsWithin command bytes × FindsBadJoin command bytes fault
 IsAnswer command bytes (NoSection name) = IsWithin command bytes × FindsNoSection command bytes name
 IsAnswer command bytes (BadPolicy line) = IsWithin command bytes × FindsBadLine command bytes line
+IsAnswer command bytes Differs = IsWithin command bytes × FindsAnother command bytes
 IsAnswer command bytes Usage = ⊥
 IsAnswer command bytes ReadFault = ⊥
 IsAnswer command bytes WriteFault = ⊥
 IsAnswer command bytes OutOfMemory = ⊥
 
--- good input: a good text, a policy and a good text, the bytes of an image, those of objects that are linked, or
--- anything where a command reads nothing
+-- good input: a good text, the bytes of an image, those of objects that are linked, an image and a good text whose
+-- program is the image's but for given compartments, a policy and then good input, or anything where a command reads
+-- nothing
 abbrev pub IsGoodIn : Intake → Command → List ℕ → Type 0
 IsGoodIn (Text limit) command bytes = IsGoodText command bytes
-IsGoodIn (PolicyAndText limit) command bytes = HoldsAfterPolicy bytes (IsGoodText command)
+IsGoodIn (ImageAndText limit within) command bytes = HoldsOfBoth within bytes (IsGoodWith command)
+IsGoodIn (AfterPolicy following) command bytes = HoldsAfterPolicy bytes (IsGoodIn following command)
 IsGoodIn (Image limit) command bytes = IsImage bytes
 IsGoodIn (Objects limit) command bytes = CanBeLinked bytes
 IsGoodIn Nothing command bytes = Unit {0}

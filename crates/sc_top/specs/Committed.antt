@@ -1,7 +1,7 @@
 -- The texts of a chain, and what they say of an event of the trace.
 use Rattle.sc_base.specs.Prelude.{IsPrefix}
 use Rattle.sc_top.specs.Common.{Accepts, Link, ProgramTree, SourceParts, is_listed, performing, recomposed}
-use Rattle.std.specs.Prelude.{◌≡◌, ◌<◌, ℕ, suc, Bool, false, nat_le, List, [], filter, length, map, take}
+use Rattle.std.specs.Prelude.{◌≡◌, ◌<◌, ℕ, suc, Bool, false, nat_le, List, [], ◌++◌, filter, length, map, take}
 use Rattle.std.specs.Prelude.{slice_index_or}
 use Rattle.sc_back.specs.Prelude.{new_text}
 use Rattle.sc_core.specs.Prelude.{meaning}
@@ -10,10 +10,10 @@ use Rattle.sc_core.specs.declared.explanation.Explanation.{Explanation}
 abbrev pub comp_of : Link → ℕ
 comp_of link = link.comp
 
--- the compartments that perform their parts of the trace in a text of the chain: those of the first `links` links, or
--- of all where there are fewer
+-- the compartments that perform their parts of the trace in a text of the chain: the given ones, and those of the first
+-- `links` links, or of all where there are fewer
 abbrev pub performers : Explanation → (links : ℕ) → (comp : ℕ) → Bool
-performers explanation links = is_listed (map comp_of (take links explanation.links))
+performers explanation links = is_listed (explanation.given ++ map comp_of (take links explanation.links))
 
 -- the text of the chain after `links` links
 abbrev pub text_after : SourceParts → Explanation → (links : ℕ) → List ℕ

@@ -1,5 +1,5 @@
 -- Helping: how the faults of the parts are passed on, and which status tells a failure.
-use Rattle.sc_top.specs.Common.{Command, Rose, cause_number}
+use Rattle.sc_top.specs.Common.{Command, Fails, Rose, cause_number}
 use Rattle.std.specs.Prelude.{◌≡◌, ℕ, List, Result, Ok, Err, Option, None, Some}
 use Rattle.sc_image.specs.declared.fault.ImageFault.{ImageFault}
 use Rattle.sc_image.specs.declared.fault.ImageFault.TheVariants as image
@@ -19,12 +19,13 @@ use Rattle.sc_top.specs.declared.input.ReadFault.TheVariants as faults
 use Rattle.sc_top.specs.declared.failure.Failure.{Failure}
 use Rattle.sc_top.specs.declared.failure.Failure.TheVariants.{Usage, Refused, TooLarge, TooLong, BadImage, ReadFault}
 use Rattle.sc_top.specs.declared.failure.Failure.TheVariants.{WriteFault, OutOfMemory, BadObject}
-use Rattle.sc_top.specs.declared.failure.Failure.TheVariants.{BadJoin, NoSection, BadPolicy}
+use Rattle.sc_top.specs.declared.failure.Failure.TheVariants.{BadJoin, NoSection, BadPolicy, Differs}
 use Rattle.sc_top.specs.declared.status.BadJoin as join
 use Rattle.sc_top.specs.declared.status.Status.{Status}
 use Rattle.sc_top.specs.declared.status.Status.TheVariants as status
-use Rattle.sc_top.specs.Answer.{FindsBad, FindsBadJoin, FindsBadLine, FindsBadObject, FindsNoSection, FindsUnfit}
-use Rattle.sc_top.specs.Answer.{IsLonger, Refuses}
+use Rattle.sc_top.specs.Answer.{DiffersIn, HasBadJoinIn, HasBadLineIn, HasBadObjectIn, HasLongTextIn, IsBadIn}
+use Rattle.sc_top.specs.Answer.{IsLonger, IsUnfit, LacksSection}
+use Rattle.sc_top.specs.Command.{HoldsOfText, Intake, intake}
 use Rattle.sc_top.specs.Objects.{bad_join_in, join_by_name}
 
 abbrev pub of_words_fault : WordsFault → Failure
@@ -78,6 +79,7 @@ status_of (BadObject index cause) = status.BadObject index cause
 status_of (BadJoin fault) = status.BadJoin fault
 status_of (NoSection name) = status.NoSection name
 status_of (BadPolicy line) = status.BadPolicy line
+status_of Differs = status.Differs
 
 -- the status of a call that went well or failed
 abbrev pub status_by : {A : Type 0} → Result A Failure → Status
@@ -92,14 +94,19 @@ IsInputCause limit left left_after faults faults_after ReadFault = Rose faults f
 IsInputCause limit left left_after faults faults_after OutOfMemory = Unit {0}
 IsInputCause limit left left_after faults faults_after _ = ⊥
 
--- why a command has no output for these bytes
+-- why a command with this intake has no output for these bytes
+abbrev pub IsCauseIn : Intake → Command → List ℕ → Failure → Type 0
+IsCauseIn i command bytes (Refused refusal) = HoldsOfText i bytes (λ text. Fails text refusal.phase refusal.line)
+IsCauseIn i command bytes (TooLarge fault) = HoldsOfText i bytes (λ text. IsUnfit command text fault)
+IsCauseIn i command bytes (TooLong limit) = HasLongTextIn i bytes limit
+IsCauseIn i command bytes (BadImage cause) = IsBadIn i bytes cause
+IsCauseIn i command bytes (BadObject index cause) = HasBadObjectIn i bytes index cause
+IsCauseIn i command bytes (BadJoin fault) = HasBadJoinIn i bytes fault
+IsCauseIn i command bytes (NoSection name) = HoldsOfText i bytes (λ text. LacksSection command text name)
+IsCauseIn i command bytes (BadPolicy line) = HasBadLineIn i bytes line
+IsCauseIn i command bytes Differs = DiffersIn i bytes
+IsCauseIn i command bytes OutOfMemory = Unit {0}
+IsCauseIn i command bytes _ = ⊥
+
 abbrev pub IsOutputCause : Command → List ℕ → Failure → Type 0
-IsOutputCause command bytes (Refused refusal) = Refuses command bytes refusal
-IsOutputCause command bytes (TooLarge fault) = FindsUnfit command bytes fault
-IsOutputCause command bytes (BadImage cause) = FindsBad command bytes cause
-IsOutputCause command bytes (BadObject index cause) = FindsBadObject command bytes index cause
-IsOutputCause command bytes (BadJoin fault) = FindsBadJoin command bytes fault
-IsOutputCause command bytes (NoSection name) = FindsNoSection command bytes name
-IsOutputCause command bytes (BadPolicy line) = FindsBadLine command bytes line
-IsOutputCause command bytes OutOfMemory = Unit {0}
-IsOutputCause command bytes _ = ⊥
+IsOutputCause command bytes failure = IsCauseIn (intake command) command bytes failure

@@ -1,7 +1,9 @@
 -- What each command writes for the program of a text and its image, or for an image.
 use Rattle.sc_top_words.specs.Words.{most_steps}
 use Rattle.sc_base.specs.Prelude.{most_compiled, most_events, most_text}
-use Rattle.sc_top.specs.Common.{Accepts, Command, Interfaces, IsCompiled, IsExplained, IsImage, IsSource}
+use Rattle.sc_top.specs.Command.{BeginsWithImage}
+use Rattle.sc_top.specs.Common.{Accepts, Command, Interfaces, IsCompiled, IsExplained, IsImage, IsImageExplained}
+use Rattle.sc_top.specs.Common.{IsButFor, IsSource}
 use Rattle.sc_top.specs.Common.{ProgramTree, MachineRun, SourceParts, image_bytes, image_of}
 use Rattle.sc_top.specs.Common.{image_interfaces, machine}
 use Rattle.sc_top.specs.Common.{too_large}
@@ -30,6 +32,8 @@ use Rattle.sc_top.specs.Committed.{IsCommitted, text_after}
 use Rattle.sc_top.specs.Objects.{HasSection, IsLinked, comp_named}
 use Rattle.sc_top.specs.Tagged.{IsTagged}
 use Rattle.sc_top_words.specs.declared.command.Command.TheVariants as commands
+use Rattle.sc_top_words.specs.declared.command.ExplainOptions.{ExplainOptions}
+use Rattle.sc_top_words.specs.declared.command.JudgeOptions.{JudgeOptions}
 use Rattle.sc_top_words.specs.declared.command.MakeOptions.{MakeOptions}
 use Rattle.sc_top_words.specs.declared.command.MeaningOptions.{MeaningOptions}
 
@@ -61,7 +65,7 @@ compiles commands.Link = false
 compiles (commands.Run options) = true
 compiles (commands.Exec options) = false
 compiles (commands.Tags options range) = false
-compiles (commands.Explain options show) = true
+compiles (commands.Explain options) = true
 compiles (commands.Judge options) = true
 compiles (commands.Make options) = false
 
@@ -71,6 +75,14 @@ pub record IsGoodText (command : Command) (bytes : List ℕ) : Type 0 where
   pub accepted : Accepts bytes program
   pub there : HasSection command program
   pub fits : IsTrue (compiles command) → too_large program ≡ None
+
+-- A good text after an image, which differs from the image of the text's program in given compartments only.
+pub record IsGoodWith (command : Command) (image : ImageParts) (bytes : List ℕ) : Type 0 where
+  pub text : IsGoodText command bytes
+  pub own : ImageParts
+  pub compiled : image_of text.program ≡ Ok own
+  pub given : ℕ → Bool
+  pub but_for : IsButFor given own image
 
 -- what a command writes for the program of a text and its image, where the text is all that it reads and that is no
 -- account
@@ -83,7 +95,7 @@ output commands.Link program image = []
 output (commands.Run options) program image = machine_text program.interfaces options image
 output (commands.Exec options) program image = []
 output (commands.Tags options range) program image = []
-output (commands.Explain options show) program image = []
+output (commands.Explain options) program image = []
 output (commands.Judge options) program image = []
 output (commands.Make options) program image = []
 
@@ -110,20 +122,50 @@ abbrev pub account : (show : Option ℕ) → SourceParts → Explanation → Lis
 account None source explanation = explain_text source.program.interfaces explanation
 account (Some links) source explanation = text_after source explanation links
 
--- the bytes are an accepted text, and the machine's trace on its program's image is explained by a chain of texts
-pub record HasExplanation (options : RunOptions) (bytes : List ℕ) : Type 0 where
+-- the machine's trace on the image of a text's program, or on this image, is explained by a chain of texts
+abbrev pub IsExplainedOn : Option ImageParts → SourceParts → RunOptions → Explanation → Type 0
+IsExplainedOn None source options explanation =
+    IsExplained source (map word_of options.inputs) options.steps options.events explanation
+IsExplainedOn (Some image) source options explanation =
+    IsImageExplained source image (map word_of options.inputs) options.steps options.events explanation
+
+-- the bytes are an accepted text, and the machine's trace is so explained
+pub record HasAccount (options : RunOptions) (image : Option ImageParts) (bytes : List ℕ) : Type 0 where
   pub source : SourceParts
   pub parts : IsSource source
   pub whole : source.bytes ≡ bytes
   pub explanation : Explanation
-  pub explained : IsExplained source (map word_of options.inputs) options.steps options.events explanation
+  pub explained : IsExplainedOn image source options explanation
   -- no text of the chain is longer than `meaning` takes
   pub short : (links : ℕ) → length (text_after source explanation links) ≤ most_text
 
+-- the trace is that of the image of the text's program
+abbrev pub HasExplanation : RunOptions → List ℕ → Type 0
+HasExplanation options bytes = HasAccount options None bytes
+
+-- an image stands before the text, which isn't too long to be compiled
+pub record HasImageBefore (bytes : List ℕ) (image : Option ImageParts) (text : List ℕ) : Type 0 where
+  pub found : ImageParts
+  pub is : image ≡ Some found
+  pub begins : BeginsWithImage bytes found text
+  pub short : length text ≤ most_compiled
+
+-- the bytes are an image and then the text, or the text alone
+abbrev pub AreImageAndText : (with_image : Bool) → List ℕ → Option ImageParts → List ℕ → Type 0
+AreImageAndText true bytes image text = HasImageBefore bytes image text
+AreImageAndText false bytes image text = (image ≡ None) × (text ≡ bytes)
+
+-- the account of the text in the bytes, by the image before it if one is asked for
+pub record HasAccountIn (with_image : Bool) (options : RunOptions) (bytes : List ℕ) : Type 0 where
+  pub image : Option ImageParts
+  pub text : List ℕ
+  pub are : AreImageAndText with_image bytes image text
+  pub has : HasAccount options image text
+
 -- this is the account of it
-pub record IsAccounted (options : RunOptions) (show : Option ℕ) (bytes text : List ℕ) : Type 0 where
-  pub has : HasExplanation options bytes
-  pub written : text ≡ account show has.source has.explanation
+pub record IsAccounted (options : ExplainOptions) (bytes text : List ℕ) : Type 0 where
+  pub found : HasAccountIn options.image options.run bytes
+  pub written : text ≡ account options.show found.has.source found.has.explanation
 
 -- what `judge` writes: the report, and what the policy says of the trace
 abbrev pub judge_text : Policy → SourceParts → Explanation → List ℕ
@@ -131,16 +173,19 @@ judge_text policy source explanation =
     explain_text source.program.interfaces explanation ++
     verdict_text policy.states source.program.interfaces (verdict policy source.program.interfaces explanation)
 
--- the bytes begin with a policy, the text that follows is explained, and this is the report with the policy's verdict.
--- A violation is committed in the chain: in one of its texts, by source code where the compartment isn't compromised
-pub record IsJudged (options : RunOptions) (bytes text : List ℕ) : Type 0 where
+-- The bytes begin with a policy, the text in those that follow is explained, and this is the report with the policy's
+-- verdict. A violation is committed in the chain: in one of its texts, by source code where the compartment isn't
+-- compromised.
+pub record IsJudged (options : JudgeOptions) (bytes text : List ℕ) : Type 0 where
   pub read : PolicyRead
   pub is : IsPolicyRead bytes read
-  pub has : HasExplanation options (drop read.rest bytes)
-  pub written : text ≡ judge_text read.policy has.source has.explanation
+  pub found : HasAccountIn options.image options.run (drop read.rest bytes)
+  pub written : text ≡ judge_text read.policy found.has.source found.has.explanation
   pub committed : (after comp rule : ℕ) (compromised : Bool) →
-      verdict read.policy has.source.program.interfaces has.explanation ≡ Violated after comp rule compromised →
-      IsCommitted has.source (map word_of options.inputs) options.steps has.explanation after comp compromised
+      verdict read.policy found.has.source.program.interfaces found.has.explanation ≡
+      Violated after comp rule compromised →
+      IsCommitted found.has.source (map word_of options.run.inputs) options.run.steps found.has.explanation after comp
+      compromised
 
 -- the bytes are those of an image, and the text reports the machine's run on it, by the image's own names
 pub record IsExecuted (options : RunOptions) (bytes text : List ℕ) : Type 0 where
@@ -174,7 +219,7 @@ IsMade options text = IsMadeBy options.summary options text
 
 -- the text is the command's output for these bytes
 abbrev pub IsOutput : Command → List ℕ → List ℕ → Type 0
-IsOutput (commands.Explain options show) bytes text = IsAccounted options show bytes text
+IsOutput (commands.Explain options) bytes text = IsAccounted options bytes text
 IsOutput (commands.Judge options) bytes text = IsJudged options bytes text
 IsOutput (commands.Exec options) bytes text = IsExecuted options bytes text
 IsOutput (commands.Tags options range) bytes text = IsTagged options range bytes text

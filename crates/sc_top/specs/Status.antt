@@ -11,7 +11,7 @@ use Rattle.sc_top.specs.declared.status.TooLarge.TheVariants as which
 use Rattle.sc_top.specs.declared.status.Status.{Status}
 use Rattle.sc_top.specs.declared.status.Status.TheVariants.{Done, Usage, Refused, TooLarge, TooLong, BadImage}
 use Rattle.sc_top.specs.declared.status.Status.TheVariants.{ReadFault, WriteFault, OutOfMemory, BadObject}
-use Rattle.sc_top.specs.declared.status.Status.TheVariants.{BadJoin, NoSection, BadPolicy}
+use Rattle.sc_top.specs.declared.status.Status.TheVariants.{BadJoin, NoSection, BadPolicy, Differs}
 
 abbrev pub status_number : Status → ℕ
 status_number Done = 0
@@ -27,6 +27,7 @@ status_number (BadObject index cause) = 11
 status_number (BadJoin fault) = 12
 status_number (NoSection name) = 13
 status_number (BadPolicy line) = 14
+status_number Differs = 15
 
 abbrev pub phase_word : Phase → List ℕ
 phase_word phase.Lex = codes "lex"
@@ -92,6 +93,7 @@ fixed_text (BadObject index cause) = codes "secomp: bad object "
 fixed_text (BadJoin fault) = join_text fault
 fixed_text (NoSection name) = codes "secomp: no section "
 fixed_text (BadPolicy line) = codes "secomp: bad policy line "
+fixed_text Differs = codes "secomp: image differs\n"
 
 -- what follows it
 abbrev pub own_text : Status → List ℕ
@@ -108,6 +110,7 @@ own_text Usage = []
 own_text ReadFault = []
 own_text WriteFault = []
 own_text OutOfMemory = []
+own_text Differs = []
 
 -- what is written of a status to standard error
 abbrev pub status_text : Status → List ℕ

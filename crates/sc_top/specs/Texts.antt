@@ -1,17 +1,18 @@
 -- Helping: texts as commands read them, and what comes of compiling them.
 use Rattle.sc_base.specs.Prelude.{most_events}
-use Rattle.sc_top.specs.Common.{Command, CompileFault, Fails, Interfaces, Link, ProgramTree, SourceParts, comp_at}
-use Rattle.sc_top.specs.Common.{performing_text}
-use Rattle.std.specs.Prelude.{◌≡◌, ◌≤◌, ℕ, List, All, Option, None, Some, IsSome}
-use Rattle.sc_event.specs.declared.event.Event.{Event}
-use Rattle.sc_chain.specs.declared.composed.Replacement.{Replacement}
+use Rattle.sc_top.specs.Common.{Command, CompileFault, Fails, Interfaces, IsAnotherProgram, ProgramTree, comp_at}
+use Rattle.std.specs.Prelude.{◌≡◌, ◌≤◌, ◌+◌, ℕ, Bool, List, All, Option, None, Some, IsSome, length}
+use Rattle.sc_image.specs.declared.parts.ImageParts.{ImageParts}
 use Rattle.sc_compile.specs.declared.fault.CompileFault.TheVariants as compiling
 use Rattle.sc_report_made.specs.Laws.{IsAsked}
+use Rattle.sc_top.specs.Output.{HasAccountIn}
+use Rattle.sc_top.specs.declared.account.Account.{Account}
 use Rattle.sc_top.specs.declared.failure.Failure.{Failure}
-use Rattle.sc_top.specs.declared.failure.Failure.TheVariants.{Refused, TooLarge, OutOfMemory}
+use Rattle.sc_top.specs.declared.failure.Failure.TheVariants.{Refused, TooLarge, TooLong, OutOfMemory, Differs}
 use Rattle.sc_top.specs.declared.status.TooLarge as large
 use Rattle.sc_top.specs.Large.{by_name, large_in}
 use Rattle.sc_top_words.specs.declared.command.Command.TheVariants as commands
+use Rattle.sc_top_words.specs.declared.command.RunOptions.{RunOptions}
 use Rattle.sc_tags.specs.Prelude.{IsWithinAddresses}
 use Rattle.sc_top.specs.Tagged.{ranges_of}
 
@@ -24,20 +25,24 @@ IsReading bytes _ = ⊥
 -- the options of `explain` and `judge` allow so few events that compartments can perform them, those of `make` are such
 -- that programs are made from them, and those of `tags` name no byte beyond the last address
 abbrev pub IsBounded : Command → Type 0
-IsBounded (commands.Explain options show) = options.events ≤ most_events
-IsBounded (commands.Judge options) = options.events ≤ most_events
+IsBounded (commands.Explain options) = options.run.events ≤ most_events
+IsBounded (commands.Judge options) = options.run.events ≤ most_events
 IsBounded (commands.Make options) = IsAsked options.size options.seed
 IsBounded (commands.Tags options range) = All IsWithinAddresses (ranges_of range)
 IsBounded command = Unit {0}
 
--- what a link replaces
-abbrev pub replacement_of : Link → Replacement
-replacement_of link = record { comp = link.comp; text = link.text }
+-- why a text of at most so many bytes isn't read as a program
+abbrev pub IsLimited : (within : ℕ) → List ℕ → Failure → Type 0
+IsLimited within bytes (TooLong limit) = (within ≡ limit) × (within + 1 ≤ length bytes)
+IsLimited within bytes (Refused refusal) = (length bytes ≤ within) × Fails bytes refusal.phase refusal.line
+IsLimited within bytes OutOfMemory = Unit {0}
+IsLimited within bytes _ = ⊥
 
--- by the text of each link its compartment performs its part of the trace
-abbrev pub ArePerforming : SourceParts → List Event → List Link → Type 0
-ArePerforming source trace links =
-    All (λ link. link.text ≡ performing_text source.program.interfaces trace link.comp) links
+-- this is the account of the text in the bytes
+pub record IsAccountFor (options : RunOptions) (with_image : Bool) (bytes : List ℕ) (account : Account) : Type 0 where
+  pub found : HasAccountIn with_image options bytes
+  pub source : found.has.source ≡ account.source
+  pub explanation : found.has.explanation ≡ account.explanation
 
 -- the compartment that a fault names is there
 abbrev pub IsNamed : Interfaces → CompileFault → Type 0
@@ -59,3 +64,10 @@ abbrev pub IsCompiling : ProgramTree → Failure → Type 0
 IsCompiling program (TooLarge fault) = large_in program ≡ Some fault
 IsCompiling program OutOfMemory = Unit {0}
 IsCompiling program _ = ⊥
+
+-- why a run of an image isn't explained by a program
+abbrev pub IsAnotherCompiling : ProgramTree → ImageParts → Failure → Type 0
+IsAnotherCompiling program image (TooLarge fault) = large_in program ≡ Some fault
+IsAnotherCompiling program image Differs = IsAnotherProgram program image
+IsAnotherCompiling program image OutOfMemory = Unit {0}
+IsAnotherCompiling program image _ = ⊥

@@ -34,6 +34,7 @@ pub(crate) enum Failure {
     BadJoin(BadJoin),
     NoSection { comp: Name },
     BadPolicy { line: u32 },
+    Differs,
 }
 
 impl From<OutOfMemory> for Failure {

@@ -1,6 +1,7 @@
 //! The program `secomp` as one function: from words and bytes to a status and bytes.
 #![tactic(auto)]
 
+mod account;
 mod chain;
 mod command;
 mod exec;

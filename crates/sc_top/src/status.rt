@@ -51,7 +51,7 @@ pub enum Status {
     Refused(Refusal),
     /// The text is a program that is too large to be compiled.
     TooLarge(TooLarge),
-    /// More bytes came than the command takes.
+    /// More bytes came than the command takes, or the text in them has more bytes than are compiled.
     TooLong { limit: u32 },
     /// The bytes are no image: the number of the first thing that is wrong with them, 1 to 9 in the order of the file.
     BadImage { cause: u8 },
@@ -71,6 +71,8 @@ pub enum Status {
     /// The bytes begin with no policy: the first line with which none begins, counted from 1. 4294967295 is the number
     /// of all later lines.
     BadPolicy { line: u32 },
+    /// The image isn't that of the program but for compartments whose code and data may be anybody's.
+    Differs,
 }
 
 impl Status {
@@ -92,6 +94,7 @@ impl Status {
             Status::BadJoin(_) => 12,
             Status::NoSection { .. } => 13,
             Status::BadPolicy { .. } => 14,
+            Status::Differs => 15,
         }
     }
 }
@@ -114,6 +117,7 @@ pub(crate) fn fixed_text(status: &Status) -> &'static [u8]
         Status::BadJoin(fault) => join_text(fault),
         Status::NoSection { .. } => b"secomp: no section ",
         Status::BadPolicy { .. } => b"secomp: bad policy line ",
+        Status::Differs => b"secomp: image differs\n",
     }
 }
 
@@ -170,6 +174,7 @@ impl From<Failure> for Status {
             Failure::BadJoin(fault) => Status::BadJoin(fault),
             Failure::NoSection { comp } => Status::NoSection { comp },
             Failure::BadPolicy { line } => Status::BadPolicy { line },
+            Failure::Differs => Status::Differs,
         }
     }
 }

@@ -122,7 +122,7 @@ fn output(alloc: Global, command: &Command, bytes: Text) -> Result<Text, Failure
         Command::Run(options) => run(alloc, options, bytes.as_bytes()),
         Command::Exec(options) => execute(alloc, options, bytes.as_bytes()),
         Command::Tags(options, range) => tags(alloc, options, *range, bytes.as_bytes()),
-        Command::Explain(options, show) => explain(alloc, options, *show, bytes.as_bytes()),
+        Command::Explain(options) => explain(alloc, options, bytes.as_bytes()),
         Command::Judge(options) => judge(alloc, options, bytes.as_bytes()),
         Command::Make(options) => Ok(make(alloc, options)?),
     }
