@@ -1,6 +1,9 @@
 -- What an answer says, from what was read.
 use Rattle.sc_top.proofs.Common.{Accepts, Answers, Check, Command, Compile, Exec, Explain, Fails, Failure}
-use Rattle.sc_top.proofs.Common.{HasExplanation, IsAnswer, IsBadAt, IsErrOf, IsGood, IsGoodText, IsImage, IsInput}
+use Rattle.sc_top.proofs.Common.{Bool, HasAccount, HasAccountIn, ImageParts, IsGoodWith, accounted_intake, false}
+use Rattle.sc_top.proofs.Common.{is_listed, limit_in, true}
+use Rattle.sc_top.specs.Answer.{IsGoodIn, IsLonger}
+use Rattle.sc_top.proofs.Common.{IsAnswer, IsBadAt, IsErrOf, IsGood, IsGoodText, IsImage, IsInput}
 use Rattle.sc_top.proofs.Common.{IsObjectOutput, IsOutput, IsPolicyRead, IsTextOutput, IsUndisturbed, IsWhole, IsWithin}
 use Rattle.sc_top.proofs.Common.{IsWithinLimit, Judge, List, Make, Meaning, None, Object, Option, PolicyRead}
 use Rattle.sc_top.proofs.Common.{ProgramTree, Result, Run, RunOptions, SameAnswer, Says, Some, Status, Takes, Traffic}
@@ -54,6 +57,11 @@ record Reads (c : Command) : Type 0 where
   pub same : (bytes other text : List ℕ) → IsOutput c bytes text → IsOutput c other text
   pub none : (bytes : List ℕ) (s : Status) → Cause (intake c) c bytes s → ⊥
 
+-- where a run is accounted for something is read
+accounts_read : (image : Bool) → limit_in (accounted_intake image) ≡ None → ⊥
+accounts_read true none = none-some 67108864 (sym none)
+accounts_read false none = none-some 1048576 (sym none)
+
 reads_nothing : (c : Command) → limit_of c ≡ None → Reads c
 reads_nothing Check none = absurd (none-some 8388608 (sym none))
 reads_nothing (Meaning options) none = absurd (none-some 8388608 (sym none))
@@ -61,8 +69,8 @@ reads_nothing Compile none = absurd (none-some 1048576 (sym none))
 reads_nothing (Object options) none = absurd (none-some 1048576 (sym none))
 reads_nothing commands.Link none = absurd (none-some 67108864 (sym none))
 reads_nothing (Run options) none = absurd (none-some 1048576 (sym none))
-reads_nothing (Explain options show) none = absurd (none-some 1048576 (sym none))
-reads_nothing (Judge options) none = absurd (none-some 1048576 (sym none))
+reads_nothing (Explain options) none = absurd (accounts_read options.image none)
+reads_nothing (Judge options) none = absurd (accounts_read options.image none)
 reads_nothing (Exec options) none = absurd (none-some 67108864 (sym none))
 reads_nothing (commands.Tags options range) none = absurd (none-some 67108864 (sym none))
 reads_nothing (Make options) none =
@@ -94,6 +102,13 @@ answered c t text s says is calm = go s says where
       read_at c text t.left_after h.bytes (λ bytes. Cause (intake c) c bytes s) (input_of h.bytes h.input) h.holds
       (λ none o. absurd ((reads_nothing c none).none h.bytes s o))
 
+  too_long : (limit : ℕ) → (limit_of c ≡ Some limit) × IsLonger limit t.left t.left_after →
+      (limit_of c ≡ Some limit) × (limit + 1 ≤ length text)
+  too_long limit h =
+      let read : Takes (Some text) t.left_after h.1.bytes = subst (λ l. Takes l t.left_after h.1.bytes) is h.1.read in
+      let long = h.1.long in
+      (h.0, omega (arith, long, as_long text h.1.bytes t.left_after read))
+
   go : (s : Status) → Says c t s → IsAnswer c text s ⊎ (s ≡ status.OutOfMemory)
   go status.Done h =
       inl (read_at c text t.left_after h.bytes (λ bytes. (out : List ℕ) × IsOutput c bytes out)
@@ -102,10 +117,8 @@ answered c t text s says is calm = go s says where
   go status.Usage h = absurd h
   go (status.Refused refusal) h = inl (caused (status.Refused refusal) h)
   go (status.TooLarge fault) h = inl (caused (status.TooLarge fault) h)
-  go (status.TooLong limit) h =
-      let read : Takes (Some text) t.left_after h.1.bytes = subst (λ l. Takes l t.left_after h.1.bytes) is h.1.read in
-      let long = h.1.long in
-      inl (h.0, omega (arith, long, as_long text h.1.bytes t.left_after read))
+  go (status.TooLong limit) h = inl (⊎_elim (λ more. inl (too_long limit more))
+      (λ later. inr (caused (status.TooLong limit) later)) h)
   go (status.BadImage cause) h = inl (caused (status.BadImage cause) h)
   go status.ReadFault h = absurd (calm.reads h)
   go status.WriteFault h = absurd (calm.writes h.0)
@@ -114,6 +127,7 @@ answered c t text s says is calm = go s says where
   go (status.BadJoin fault) h = inl (caused (status.BadJoin fault) h)
   go (status.NoSection name) h = inl (caused (status.NoSection name) h)
   go (status.BadPolicy line) h = inl (caused (status.BadPolicy line) h)
+  go status.Differs h = inl (caused status.Differs h)
 
 -- a command that reads nothing has its output, unless memory runs out or the outside fails
 pub made : (c : Command) (t : Traffic) (s : Status) → Says c t s → limit_of c ≡ None → IsUndisturbed t →
@@ -128,7 +142,8 @@ made c t s says none calm = go s says where
   go status.Usage h = absurd h
   go (status.Refused refusal) h = never (status.Refused refusal) h
   go (status.TooLarge fault) h = never (status.TooLarge fault) h
-  go (status.TooLong limit) h = absurd (none-some limit (sym none ∙ h.0))
+  go (status.TooLong limit) h = ⊎_elim (λ more. absurd (none-some limit (sym none ∙ more.0)))
+      (λ later. never (status.TooLong limit) later) h
   go (status.BadImage cause) h = never (status.BadImage cause) h
   go status.ReadFault h = absurd (calm.reads h)
   go status.WriteFault h = absurd (calm.writes h.0)
@@ -137,6 +152,7 @@ made c t s says none calm = go s says where
   go (status.BadJoin fault) h = never (status.BadJoin fault) h
   go (status.NoSection name) h = never (status.NoSection name) h
   go (status.BadPolicy line) h = never (status.BadPolicy line) h
+  go status.Differs h = never status.Differs h
 
 pub image_within : (bytes : List ℕ) → IsImage bytes → length bytes ≤ 67108864
 image_within bytes is =
@@ -163,13 +179,47 @@ good_text c plain text out o = record {
 }
 
 explained_text : (c : Command) → section_of c ≡ None → (options : RunOptions) (text : List ℕ) →
-    HasExplanation options text → IsGoodText c text
+    HasAccount options None text → IsGoodText c text
 explained_text c plain options text has = record {
   program = has.source.program;
   there = asks_none c plain has.source.program;
   accepted = subst (λ bytes. Accepts bytes has.source.program) has.whole has.parts.accepted;
   fits = λ compiled. fits_of _ (built_image _) has.explained.image has.explained.compiled;
 }
+
+-- a text with an account of an image
+explained_with : (c : Command) → section_of c ≡ None → (options : RunOptions) (image : ImageParts) (text : List ℕ) →
+    HasAccount options (Some image) text → IsGoodWith c image text
+explained_with c plain options image text has = record {
+  text = record {
+    program = has.source.program;
+    there = asks_none c plain has.source.program;
+    accepted = subst (λ bytes. Accepts bytes has.source.program) has.whole has.parts.accepted;
+    fits = λ compiled. fits_of _ (built_image _) has.explained.own has.explained.compiled;
+  };
+  own = has.explained.own;
+  compiled = has.explained.compiled;
+  given = is_listed has.explanation.given;
+  but_for = has.explained.differ.but_for;
+}
+
+-- bytes with an account
+accounted_input : (c : Command) → section_of c ≡ None → (image : Bool) (options : RunOptions) (bytes : List ℕ) →
+    HasAccountIn image options bytes → IsGoodIn (accounted_intake image) c bytes
+accounted_input c plain true options bytes found =
+    let has = subst (HasAccount options found.image) found.are.rest found.has in
+    record {
+      front = found.are.front;
+      holds = (
+        subst (λ (text : List ℕ). length text ≤ 1048576) found.are.rest found.are.short,
+        explained_with c plain options found.are.front.image (drop found.are.front.place bytes)
+            (subst (λ image. HasAccount options image (drop found.are.front.place bytes)) found.are.is has),
+      );
+    }
+accounted_input c plain false options bytes found =
+    explained_text c plain options bytes
+    (subst (HasAccount options None) found.are.1
+    (subst (λ image. HasAccount options image found.text) found.are.0 found.has))
 
 object_text : (options : ObjectOptions) (text out : List ℕ) → IsObjectOutput options.section text out →
     IsGoodText (Object options) text
@@ -190,11 +240,12 @@ good_output Compile bytes out o = good_text Compile refl bytes out o
 good_output (Object options) bytes out o = object_text options bytes out o
 good_output commands.Link bytes out o = o.can
 good_output (Run options) bytes out o = good_text (Run options) refl bytes out o
-good_output (Explain options show) bytes out o = explained_text (Explain options show) refl options bytes o.has
+good_output (Explain options) bytes out o =
+    accounted_input (Explain options) refl options.image options.run bytes o.found
 good_output (Judge options) bytes out o = record {
   read = o.read;
   is = o.is;
-  holds = explained_text (Judge options) refl options (drop o.read.rest bytes) o.has;
+  holds = accounted_input (Judge options) refl options.image options.run (drop o.read.rest bytes) o.found;
 }
 good_output (Exec options) bytes out o = o.read
 good_output (commands.Tags options range) bytes out o = o.read
@@ -212,7 +263,8 @@ answer_is c text status.Done a = WithOutput refl a.0 a.1.0 a.1.1
 answer_is c text status.Usage a = absurd a
 answer_is c text (status.Refused r) a = WithCause a.0 a.1
 answer_is c text (status.TooLarge fault) a = WithCause a.0 a.1
-answer_is c text (status.TooLong limit) a = WithMore limit refl a
+answer_is c text (status.TooLong limit) a = ⊎_elim (λ more. WithMore limit refl more)
+    (λ later. WithCause later.0 later.1) a
 answer_is c text (status.BadImage cause) a = WithCause a.0 a.1
 answer_is c text status.ReadFault a = absurd a
 answer_is c text status.WriteFault a = absurd a
@@ -221,6 +273,7 @@ answer_is c text (status.BadObject index cause) a = WithCause a.0 a.1
 answer_is c text (status.BadJoin fault) a = WithCause a.0 a.1
 answer_is c text (status.NoSection name) a = WithCause a.0 a.1
 answer_is c text (status.BadPolicy line) a = WithCause a.0 a.1
+answer_is c text status.Differs a = WithCause a.0 a.1
 
 module _
     (accepted_or_refused : (text : List ℕ) (program : ProgramTree) (phase : Phase) (line : ℕ) →

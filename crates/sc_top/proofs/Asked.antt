@@ -2,12 +2,14 @@
 use Rattle.sc_top.proofs.Common.{All, Bool, Check, Command, Compile, Exec, Explain, IsBounded, IsInput, IsWithinLimit}
 use Rattle.sc_top.proofs.Common.{Judge}
 use Rattle.sc_top.proofs.Common.{List, Object, [], ◌+◌, ◌∷◌}
-use Rattle.sc_top.proofs.Common.{Make, MakeOptions, Meaning, None, Option, Run, RunOptions, Some, arith, codes, false}
+use Rattle.sc_top.proofs.Common.{Make, MakeOptions, Meaning, None, Option, Run, RunOptions, Some, arith, false}
 use Rattle.sc_top.proofs.Common.{if◌then◌else◌, leb-true, nat_le, none-some, option_and_then, option_map, refl, subst}
 use Rattle.sc_top.proofs.Common.{true, ℕ, ℤ, ◌&&◌, ◌≡◌, ◌≤◌}
 use Rattle.sc_top_words.specs.Prelude.{given_value, has_option, number_within, number, when_within}
 use Rattle.sc_top_words.specs.Prelude.{pieces, range_of, range_within}
 use Rattle.sc_top_words.specs.declared.command.DataRange.{DataRange}
+use Rattle.sc_top_words.specs.declared.command.ExplainOptions.{ExplainOptions}
+use Rattle.sc_top_words.specs.declared.command.JudgeOptions.{JudgeOptions}
 use Rattle.sc_tags.specs.Prelude.{IsWithinAddresses}
 use Rattle.sc_top.specs.Tagged.{ranges_of}
 use Rattle.std.proofs.lemmas.List.Elements.{All-cons, All-nil}
@@ -52,12 +54,23 @@ of_run (Some s) None inputs options few is = absurd (none-some options is)
 of_run (Some s) (Some e) None options few is = absurd (none-some options is)
 of_run (Some s) (Some e) (Some i) options few is = subst (λ o. o.events ≤ 4096) (same_value _ options is) (few e refl)
 
-of_explain : (run : Option RunOptions) (show : Option (Option ℕ)) (c : Command) →
-    ((options : RunOptions) → run ≡ Some options → options.events ≤ 4096) →
-    option_and_then (λ options. option_map (λ show. Explain options show) show) run ≡ Some c → IsBounded c
-of_explain None show c few is = absurd (none-some c is)
-of_explain (Some options) None c few is = absurd (none-some c is)
-of_explain (Some options) (Some show) c few is = subst IsBounded (same_value _ c is) (few options refl)
+of_explain : (run : Option RunOptions) (show : Option (Option ℕ)) (image : Bool) (options : ExplainOptions) →
+    ((run_options : RunOptions) → run ≡ Some run_options → run_options.events ≤ 4096) →
+    option_and_then (λ run. option_map (λ show. record { run = run; image = image; show = show }) show) run ≡
+    Some options → IsBounded (Explain options)
+of_explain None show image options few is = absurd (none-some options is)
+of_explain (Some run) None image options few is = absurd (none-some options is)
+of_explain (Some run) (Some show) image options few is =
+    subst (λ (o : ExplainOptions). o.run.events ≤ 4096)
+    (same_value (record { run = run; image = image; show = show }) options is) (few run refl)
+
+of_judge : (run : Option RunOptions) (image : Bool) (options : JudgeOptions) →
+    ((run_options : RunOptions) → run ≡ Some run_options → run_options.events ≤ 4096) →
+    option_map (λ run. record { run = run; image = image }) run ≡ Some options → IsBounded (Judge options)
+of_judge None image options few is = absurd (none-some options is)
+of_judge (Some run) image options few is =
+    subst (λ (o : JudgeOptions). o.run.events ≤ 4096)
+    (same_value (record { run = run; image = image }) options is) (few run refl)
 
 of_make : (size seed : Option ℕ) (summary : Bool) (options : MakeOptions) →
     ((n : ℕ) → size ≡ Some n → (1 ≤ n) × (n ≤ 1000)) → ((n : ℕ) → seed ≡ Some n → (0 ≤ n) × (n ≤ 4294967295)) →
@@ -136,9 +149,9 @@ either : (test : Bool) (one other : Option Command) (c : Command) → (one ≡ S
 either true one other c first second is = first is
 either false one other c first second is = second is
 
-with_values : (name : List ℕ) (value : List ℕ → Option (List ℕ)) (summary : Bool) (c : Command) →
-    words.command_with name value summary ≡ Some c → IsBounded c
-with_values name value summary c =
+with_values : (name : List ℕ) (value : List ℕ → Option (List ℕ)) (flag : List ℕ → Bool) (c : Command) →
+    words.command_with name value flag ≡ Some c → IsBounded c
+with_values name value flag c =
     either (bytes_eq name _) _ _ c (λ is. subst IsBounded (same_value Check c is) tt)
     (either (bytes_eq name _) _ _ c (mapped Meaning _ _ c)
     (either (bytes_eq name _) _ _ c (λ is. subst IsBounded (same_value Compile c is) tt)
@@ -146,18 +159,21 @@ with_values name value summary c =
     (either (bytes_eq name _) _ _ c (λ is. subst IsBounded (same_value commands.Link c is) tt)
     (either (bytes_eq name _) _ _ c (mapped Run _ _ c) (either (bytes_eq name _) _ _ c (mapped Exec _ _ c)
     (either (bytes_eq name _) _ _ c (of_tags _ (value _) c)
-    (either (bytes_eq name _) _ _ c (of_explain _ _ c (λ options. of_run (words.limit (value _))
-    (words.events (value _)) (words.inputs (value _)) options (of_events (value _))))
-    (either (bytes_eq name _) _ _ c (mapped Judge _ (λ options. of_run (words.limit (value _))
-    (words.events (value _)) (words.inputs (value _)) options (of_events (value _))) c)
-    (either (bytes_eq name _) _ _ c (mapped Make _ (λ options. of_make _ _ summary options
+    (either (bytes_eq name _) _ _ c (mapped Explain _ (λ options. of_explain _ _ (flag _) options
+    (λ run. of_run (words.limit (value _)) (words.events (value _)) (words.inputs (value _)) run
+    (of_events (value _)))) c)
+    (either (bytes_eq name _) _ _ c (mapped Judge _ (λ options. of_judge _ (flag _) options
+    (λ run. of_run (words.limit (value _)) (words.events (value _)) (words.inputs (value _)) run
+    (of_events (value _)))) c)
+    (either (bytes_eq name _) _ _ c (mapped Make _ (λ options. of_make _ _ (flag _) options
     (of_value 1 1000 (value _)) (of_value 0 4294967295 (value _))) c) (λ is. absurd (none-some c is))))))))))))
 
 of_parsed : (read : Option (List ℕ × List (List ℕ × List ℕ))) (c : Command) →
     option_and_then (λ read. words.command_with read.0 (λ name. given_value name read.1)
-    (has_option (codes "summary") read.1)) read ≡ Some c → IsBounded c
+    (λ name. has_option name read.1)) read ≡ Some c → IsBounded c
 of_parsed None c is = absurd (none-some c is)
-of_parsed (Some read) c is = with_values read.0 (λ name. given_value name read.1) (has_option _ read.1) c is
+of_parsed (Some read) c is =
+    with_values read.0 (λ name. given_value name read.1) (λ name. has_option name read.1) c is
 
 -- a command that words are
 pub asked_few : (asked : List (List ℕ)) (c : Command) → command asked ≡ Some c → IsBounded c

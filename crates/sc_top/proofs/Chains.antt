@@ -1,5 +1,5 @@
 -- Chains of texts: what stands in their texts, and that a run has one account.
-use Rattle.sc_top.proofs.Common.{Accepts, AreImageAndText, BeginsWithImage, Bool, CompileFault, Event, ExplainOptions}
+use Rattle.sc_top.proofs.Common.{Accepts, AreImageAndText, BeginWithImage, Bool, CompileFault, Event, ExplainOptions}
 use Rattle.sc_top.proofs.Common.{Explanation, HasAccount, HasAccountIn, ImageParts, IsAccounted, IsAccountFor}
 use Rattle.sc_top.proofs.Common.{IsChainFrom, IsExplained, IsExplainedOn, IsImageExplained, IsJudged, IsNext}
 use Rattle.sc_top.proofs.Common.{IsPolicyRead, IsSource, IsSplitInto, IsSummary, JudgeOptions, Link, List, MakeOptions}
@@ -14,7 +14,7 @@ use Rattle.sc_lex.specs.declared.section.Section.{Section}
 use Rattle.sc_parse_read.specs.Reading.{part_of}
 use Rattle.sc_parse_read.proofs.Splits.{same_parts, same_preamble}
 use Rattle.sc_top.specs.declared.account.Account.{Account}
-use Rattle.sc_top.proofs.Parts.{one_part}
+use Rattle.sc_top.proofs.Parts.{one_front, one_rest}
 use Rattle.sc_top.proofs.Rising.{one_rising}
 
 -- THE TEXTS
@@ -69,16 +69,17 @@ account_of_text options bytes account parts whole explained short = record {
 }
 
 -- the account of a text that follows an image
-pub account_of_image : (options : RunOptions) (bytes text : List ℕ) (image : ImageParts) (account : Account) →
-    BeginsWithImage bytes image text → IsSource account.source → account.source.bytes ≡ text →
-    IsImageExplained account.source image (map word_of options.inputs) options.steps options.events
-    account.explanation → length text ≤ 1048576 → IsAccountFor options true bytes account
-account_of_image options bytes text image account begins parts whole explained short = record {
+pub account_of_image : (options : RunOptions) (bytes : List ℕ) (front : BeginWithImage bytes) (account : Account) →
+    IsSource account.source → account.source.bytes ≡ drop front.place bytes →
+    IsImageExplained account.source front.image (map word_of options.inputs) options.steps options.events
+    account.explanation → length (drop front.place bytes) ≤ 1048576 → IsAccountFor options true bytes account
+account_of_image options bytes front account parts whole explained short = record {
   found = record {
-    image = Some image;
-    text = text;
-    are = record { found = image; is = refl; begins = begins; short = short };
-    has = has_account options (Some image) text account.source account.explanation parts whole explained short;
+    image = Some front.image;
+    text = drop front.place bytes;
+    are = record { front = front; is = refl; rest = refl; short = short };
+    has = has_account options (Some front.image) (drop front.place bytes) account.source account.explanation parts whole
+        explained short;
   };
   source = refl;
   explanation = refl;
@@ -284,8 +285,10 @@ module _
       AreImageAndText with_image bytes image text → AreImageAndText with_image bytes other rest →
       (image ≡ other) × (text ≡ rest)
   one_input true bytes image other text rest is known =
-      let same = one_part bytes is.found known.found text rest is.begins known.begins in
-      (is.is ∙ (ap Some same.0 ∙ sym known.is), same.1)
+      (
+        is.is ∙ (ap Some (one_front bytes is.front known.front).0 ∙ sym known.is),
+        is.rest ∙ (one_rest bytes is.front known.front ∙ sym known.rest),
+      )
   one_input false bytes image other text rest is known = (is.0 ∙ sym known.0, is.1 ∙ sym known.1)
 
   -- bytes have one source and one explanation

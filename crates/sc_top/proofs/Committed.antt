@@ -1,8 +1,8 @@
 -- A violation is committed in the chain: the meaning of the text after the links until then begins with it, and who
 -- isn't compromised keeps the section.
 use Rattle.sc_top.proofs.Common.{Accepts, All, AllByRecursion, Bool, Event, Explanation, Interfaces, IsChainFrom}
-use Rattle.sc_top.proofs.Common.{IsCommitted, IsExplained, IsJudged, IsKnown, IsPolicyRead, IsSome, IsSource}
-use Rattle.sc_top.proofs.Common.{IsWellTyped, Link, List, None, Option, Policy, PolicyRead, RunOptions}
+use Rattle.sc_top.proofs.Common.{IsAccountFor, IsCommitted, IsJudged, IsKnown, IsPolicyRead, IsSome, IsSource}
+use Rattle.sc_top.proofs.Common.{IsWellTyped, JudgeOptions, Link, List, None, Option, Policy, PolicyRead}
 use Rattle.sc_top.proofs.Common.{Some, SourceParts, [], and-true, ap, ap₂, arith, comp_at, comp_of, drop, false}
 use Rattle.sc_top.proofs.Common.{false≢true, filter, if◌then◌else◌, is_listed, judge_text, leb-false, leb-true, legal}
 use Rattle.sc_top.proofs.Common.{length, length-drop, map, meaning, nat_le, none-some, or-false, or_parts}
@@ -19,7 +19,10 @@ use Rattle.sc_monitor.specs.declared.verdict.Verdict.{Verdict}
 use Rattle.sc_monitor.specs.declared.verdict.Verdict.TheVariants.{Violated}
 use Rattle.sc_report.specs.Report.{explain_text}
 use Rattle.sc_report.specs.Verdict.{verdict_text}
-use Rattle.sc_top.proofs.Chains.{has_explanation}
+use Rattle.sc_top.proofs.Chains.{chain_from_given}
+use Rattle.std.proofs.lemmas.List.Folds.{list_any-append}
+use Rattle.std.specs.List.{list_any}
+use Rattle.sc_top.specs.declared.account.Account.{Account}
 use Rattle.sc_top.proofs.Known.{legal_known}
 
 -- PREFIXES
@@ -87,10 +90,16 @@ listed comps (link ∷ links) comp =
       swapped false two three = refl
 
 -- in whatever order, they are the same set
-same_set : (links : List Link) → is_listed (reached [] links) ≡ is_listed (map comp_of links)
-same_set links = λ i comp. listed [] links comp i
+same_set : (given : List ℕ) (links : List Link) →
+    is_listed (reached given links) ≡ is_listed (given ++ map comp_of links)
+same_set given links = λ i comp.
+    (listed given links comp ∙ sym (list_any-append (λ one. one == comp) given (map comp_of links))) i
 
 -- ALONG THE CHAIN
+
+-- the compartment was replaced after as many events or after fewer
+abbrev is_replaced : List Link → (comp after : ℕ) → Bool
+is_replaced links comp after = list_any (λ link. link.comp == comp && nat_le link.after after) links
 
 module _ (source : SourceParts) (inputs : List ℕ) (steps : ℕ) (trace : List Event) (after : ℕ) where
   abbrev is_early : Link → Bool
@@ -155,14 +164,14 @@ module _ (source : SourceParts) (inputs : List ℕ) (steps : ℕ) (trace : List 
             subst (λ n. Begins (reached comps (take n (link ∷ links)))) (sym (no_more comps least link links chain is))
             (here is)
 
-  -- who isn't compromised doesn't perform there
+  -- who isn't replaced by then doesn't perform there
   not_listed : (comps : List ℕ) (least : ℕ) (links : List Link) → Chain comps least links → (comp : ℕ) →
-      is_compromised links comp after ≡ false → is_listed (map comp_of (early links)) comp ≡ false
+      is_replaced links comp after ≡ false → is_listed (map comp_of (early links)) comp ≡ false
   not_listed comps least [] chain comp clean = refl
   not_listed comps least (link ∷ links) chain comp clean =
       by (is_early link) refl (not_listed (link.comp ∷ comps) (suc link.after) links chain.1 comp parts.1) where
-        parts : ((link.comp == comp && is_early link) ≡ false) × (is_compromised links comp after ≡ false)
-        parts = or_parts (link.comp == comp && is_early link) (is_compromised links comp after) clean
+        parts : ((link.comp == comp && is_early link) ≡ false) × (is_replaced links comp after ≡ false)
+        parts = or_parts (link.comp == comp && is_early link) (is_replaced links comp after) clean
 
         by : (is : Bool) → is_early link ≡ is → is_listed (map comp_of (early links)) comp ≡ false →
             is_listed (map comp_of (take (length
@@ -175,6 +184,14 @@ module _ (source : SourceParts) (inputs : List ℕ) (steps : ℕ) (trace : List 
             subst (λ n. is_listed (map comp_of (take n (link ∷ links))) comp ≡ false)
             (sym (no_more comps least link links chain is)) refl
 
+  -- who isn't compromised is neither given nor replaced by then
+  not_performing : (given : List ℕ) (links : List Link) → Chain given 0 links → (comp : ℕ) →
+      is_compromised given links comp after ≡ false → is_listed (given ++ map comp_of (early links)) comp ≡ false
+  not_performing given links chain comp clean =
+      let parts = or_parts (is_listed given comp) (is_replaced links comp after) clean in
+      list_any-append (λ one. one == comp) given (map comp_of (early links)) ∙
+      ap₂ (λ one rest. one || rest) parts.0 (not_listed given 0 links chain comp parts.1)
+
 -- what isn't listed keeps its section
 kept : (interfaces : Interfaces) (trace : List Event) (comp : ℕ) (old : List ℕ) (performs : Bool) →
     performs ≡ false → new_text (if performs then Some (performing_text interfaces trace comp) else None) old ≡ old
@@ -184,16 +201,17 @@ kept interfaces trace comp old performs is =
 module _
     (violation : (policy : Policy) (interfaces : Interfaces) (explanation : Explanation) (after comp rule : ℕ)
     (compromised : Bool) → verdict policy interfaces explanation ≡ Violated after comp rule compromised
-    → IsViolation policy.rules interfaces explanation.links explanation.trace after comp rule)
+    → IsViolation policy.rules interfaces explanation.given explanation.links explanation.trace after comp rule)
     (replaced : (policy : Policy) (interfaces : Interfaces) (explanation : Explanation) (after comp rule : ℕ)
     (compromised : Bool) → verdict policy interfaces explanation ≡ Violated after comp rule compromised
-    → compromised ≡ is_compromised explanation.links comp after) where
-  module _ (source : SourceParts) (parts : IsSource source) (inputs : List ℕ) (steps events : ℕ)
-      (explanation : Explanation) (is : IsExplained source inputs steps events explanation)
+    → compromised ≡ is_compromised explanation.given explanation.links comp after) where
+  module _ (source : SourceParts) (parts : IsSource source) (inputs : List ℕ) (steps : ℕ)
+      (explanation : Explanation)
+      (chain : IsChainFrom source inputs steps explanation.trace explanation.given 0 explanation.links)
       (known : All (IsKnown source.program.interfaces) explanation.trace) where
     violator_within : (policy : Policy) (after comp rule : ℕ) →
-        IsViolation policy.rules source.program.interfaces explanation.links explanation.trace after comp rule →
-        comp < length source.sections
+        IsViolation policy.rules source.program.interfaces explanation.given explanation.links explanation.trace after
+        comp rule → comp < length source.sections
     violator_within policy after comp rule found =
         let event = holds_at (IsKnown source.program.interfaces) explanation.trace after found.event
         (recursion_from_All _ _ known) found.at in
@@ -208,35 +226,41 @@ module _
     committed policy after comp rule compromised says =
         let found = violation policy source.program.interfaces explanation after comp rule compromised says in
         let same = replaced policy source.program.interfaces explanation after comp rule compromised says in
-        let text = begins source inputs steps explanation.trace after [] 0 explanation.links is.chain.chain in
+        let text = begins source inputs steps explanation.trace after explanation.given 0 explanation.links chain in
         record {
           there = found_within explanation.trace after found.event found.at;
           program = text.text.program;
           accepted = subst (λ set. Accepts (recomposed source explanation.trace set) text.text.program)
-              (same_set (early source inputs steps explanation.trace after explanation.links)) text.text.accepted;
+              (same_set explanation.given (early source inputs steps explanation.trace after explanation.links))
+              text.text.accepted;
           begins = text.begins;
           own = violator_within policy after comp rule found;
           clean = λ clean. kept source.program.interfaces explanation.trace comp
               (slice_index_or source.sections comp [])
-              _ (not_listed source inputs steps explanation.trace after [] 0 explanation.links is.chain.chain comp
-              (sym same ∙ clean));
+              _ (not_performing source inputs steps explanation.trace after explanation.given explanation.links chain
+              comp (sym same ∙ clean));
         }
 
   -- what is written of a text that follows a policy
-  pub judged_by : (options : RunOptions) (bytes text : List ℕ) (read : PolicyRead) (source : SourceParts)
-      (explanation : Explanation) → IsPolicyRead bytes read → IsSource source → source.bytes ≡ drop read.rest bytes →
-      IsExplained source (map word_of options.inputs) options.steps options.events explanation →
-      IsWellTyped source.program → legal source.program.interfaces explanation.trace ≡ true → length bytes ≤ 1048576 →
-      text ≡ judge_text read.policy source explanation → IsJudged options bytes text
-  judged_by options bytes text read source explanation is parts whole explained typed allowed short written =
+  pub judged_by : (options : JudgeOptions) (bytes text : List ℕ) (read : PolicyRead) (account : Account) →
+      IsPolicyRead bytes read → IsAccountFor options.run options.image (drop read.rest bytes) account →
+      IsWellTyped account.source.program →
+      legal account.source.program.interfaces account.explanation.trace ≡ true →
+      text ≡ judge_text read.policy account.source account.explanation → IsJudged options bytes text
+  judged_by options bytes text read account is made typed allowed written =
+      let has = made.found.has in
       record {
         read = read;
         is = is;
-        has = has_explanation options (drop read.rest bytes) source explanation parts whole explained
-            (let cut = length-drop read.rest bytes in omega (arith, cut, short));
-        written = written;
-        committed = committed source parts (map word_of options.inputs) options.steps options.events explanation
-            explained (legal_known source.program explanation.trace typed allowed) read.policy;
+        found = made.found;
+        written = written ∙ ap₂ (judge_text read.policy) (sym made.source) (sym made.explanation);
+        committed = committed has.source has.parts (map word_of options.run.inputs) options.run.steps has.explanation
+            (chain_from_given has.source options.run has.explanation made.found.image has.explained)
+            (subst (λ (source : SourceParts). All (IsKnown source.program.interfaces) has.explanation.trace)
+            (sym made.source)
+            (subst (λ (explanation : Explanation). All (IsKnown account.source.program.interfaces) explanation.trace)
+            (sym made.explanation) (legal_known account.source.program account.explanation.trace typed allowed)))
+            read.policy;
       }
 
 -- the report, and the verdict's line after it

@@ -12,5 +12,7 @@ pub mod Linked
 pub mod Made
 pub mod Objects
 pub mod Outputs
+pub mod Parts
+pub mod Rising
 pub mod Streams
 pub mod TaggedRuns

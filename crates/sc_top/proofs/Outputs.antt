@@ -2,7 +2,12 @@
 use Rattle.sc_top.proofs.Common.{Accepts, Bool, BytesNameOneImage, Command, Failure, HasImage, ImageParts, IsCompiling}
 use Rattle.sc_top.proofs.Common.{IsExecuted, IsMadeBy, IsOutput, IsOutputCause, IsTextOutput, IsTrue, List, MakeOptions}
 use Rattle.sc_top.proofs.Common.{ProgramTree, RunOptions, [], ap, compiles, false, image_interfaces, machine_text}
-use Rattle.sc_top.proofs.Common.{HoldsOfText, IsPolicyRead, IsUnfit, PolicyRead, intake, output}
+use Rattle.sc_top.proofs.Common.{BeginWithImage, HoldsOfText, IsAnotherCompiling, IsCauseIn, IsLimited, IsPolicyRead}
+use Rattle.sc_top.proofs.Common.{IsReading, IsUnfit, PolicyRead, accounted_intake, drop, intake, length, output}
+use Rattle.sc_top.proofs.Common.{◌≤◌}
+use Rattle.sc_top.specs.Answer.{HasBadJoinIn, HasBadLineIn, HasBadObjectIn}
+use Rattle.sc_top.specs.Command.{AfterPolicy, ImageAndText, Intake, Text}
+use Rattle.sc_top.specs.declared.status.BadJoin as join
 use Rattle.sc_top.proofs.Common.{refl, subst, sym, true, ℕ, ◌∙◌, ◌≡◌, HasSection, IsLinked, IsObjectOutput, None}
 use Rattle.sc_top.proofs.Common.{Option, Some, ap₂, comp_named, none-some, section_of}
 use Rattle.sc_object.specs.Prelude.{BytesNameOneList, IsJoined, join_as, object_bytes, object_of}
@@ -49,23 +54,24 @@ compiled_output command bytes text program image accepted compiled written =
     }
 
 -- why a program isn't compiled is why a command that compiles has no output for its text
-unfit_cause : (command : Command) (bytes text : List ℕ) (program : ProgramTree) (f : Failure) →
-    ((Q : List ℕ → Type 0) → Q text → HoldsOfText (intake command) bytes Q) → Accepts text program →
-    HasSection command program → IsTrue (compiles command) → IsCompiling program f → IsOutputCause command bytes f
-unfit_cause command bytes text program failure.Usage takes accepted there compiled why = why
-unfit_cause command bytes text program (failure.Refused refusal) takes accepted there compiled why = absurd why
-unfit_cause command bytes text program (failure.TooLarge fault) takes accepted there compiled why =
+unfit_cause : (i : Intake) (command : Command) (bytes text : List ℕ) (program : ProgramTree) (f : Failure) →
+    ((Q : List ℕ → Type 0) → Q text → HoldsOfText i bytes Q) → Accepts text program →
+    HasSection command program → IsTrue (compiles command) → IsCompiling program f → IsCauseIn i command bytes f
+unfit_cause i command bytes text program failure.Usage takes accepted there compiled why = why
+unfit_cause i command bytes text program (failure.Refused refusal) takes accepted there compiled why = absurd why
+unfit_cause i command bytes text program (failure.TooLarge fault) takes accepted there compiled why =
     takes (λ text. IsUnfit command text fault)
     (record { program = program; accepted = accepted; there = there; compiled = compiled; found = why })
-unfit_cause command bytes text program (failure.TooLong limit) takes accepted there compiled why = why
-unfit_cause command bytes text program (failure.BadImage cause) takes accepted there compiled why = absurd why
-unfit_cause command bytes text program failure.ReadFault takes accepted there compiled why = why
-unfit_cause command bytes text program failure.WriteFault takes accepted there compiled why = why
-unfit_cause command bytes text program failure.OutOfMemory takes accepted there compiled why = tt
-unfit_cause command bytes text program (failure.BadObject index cause) takes accepted there compiled why = absurd why
-unfit_cause command bytes text program (failure.BadJoin fault) takes accepted there compiled why = absurd why
-unfit_cause command bytes text program (failure.NoSection name) takes accepted there compiled why = absurd why
-unfit_cause command bytes text program (failure.BadPolicy line) takes accepted there compiled why = absurd why
+unfit_cause i command bytes text program (failure.TooLong limit) takes accepted there compiled why = absurd why
+unfit_cause i command bytes text program (failure.BadImage cause) takes accepted there compiled why = absurd why
+unfit_cause i command bytes text program failure.ReadFault takes accepted there compiled why = why
+unfit_cause i command bytes text program failure.WriteFault takes accepted there compiled why = why
+unfit_cause i command bytes text program failure.OutOfMemory takes accepted there compiled why = tt
+unfit_cause i command bytes text program (failure.BadObject index cause) takes accepted there compiled why = absurd why
+unfit_cause i command bytes text program (failure.BadJoin fault) takes accepted there compiled why = absurd why
+unfit_cause i command bytes text program (failure.NoSection name) takes accepted there compiled why = absurd why
+unfit_cause i command bytes text program (failure.BadPolicy line) takes accepted there compiled why = absurd why
+unfit_cause i command bytes text program failure.Differs takes accepted there compiled why = absurd why
 
 -- the same of a program that is this one, which has the section that is asked for
 pub asked_cause : (command : Command) (bytes text : List ℕ) (program other : ProgramTree) (f : Failure) →
@@ -73,7 +79,8 @@ pub asked_cause : (command : Command) (bytes text : List ℕ) (program other : P
     other ≡ program → Accepts text program → HasSection command program → IsTrue (compiles command) →
     IsCompiling other f → IsOutputCause command bytes f
 asked_cause command bytes text program other f takes same accepted there compiled why =
-    unfit_cause command bytes text program f takes accepted there compiled (subst (λ p. IsCompiling p f) same why)
+    unfit_cause (intake command) command bytes text program f takes accepted there compiled
+    (subst (λ p. IsCompiling p f) same why)
 
 -- and for a command that asks for none
 pub compiled_cause : (command : Command) (bytes text : List ℕ) (program other : ProgramTree) (f : Failure) →
@@ -82,6 +89,130 @@ pub compiled_cause : (command : Command) (bytes text : List ℕ) (program other 
     IsCompiling other f → IsOutputCause command bytes f
 compiled_cause command bytes text program other f takes same accepted plain compiled why =
     asked_cause command bytes text program other f takes same accepted (asks_none command plain program) compiled why
+
+-- ---- why a run isn't accounted for
+
+-- a text that isn't read, where it is all the bytes
+pub reading_cause : (limit : ℕ) (command : Command) (bytes : List ℕ) (f : Failure) → IsReading bytes f →
+    IsCauseIn (Text limit) command bytes f
+reading_cause limit command bytes failure.Usage why = why
+reading_cause limit command bytes (failure.Refused refusal) why = why
+reading_cause limit command bytes (failure.TooLarge fault) why = absurd why
+reading_cause limit command bytes (failure.TooLong most) why = absurd why
+reading_cause limit command bytes (failure.BadImage cause) why = absurd why
+reading_cause limit command bytes failure.ReadFault why = why
+reading_cause limit command bytes failure.WriteFault why = why
+reading_cause limit command bytes failure.OutOfMemory why = tt
+reading_cause limit command bytes (failure.BadObject index cause) why = absurd why
+reading_cause limit command bytes (failure.BadJoin fault) why = absurd why
+reading_cause limit command bytes (failure.NoSection name) why = absurd why
+reading_cause limit command bytes (failure.BadPolicy line) why = absurd why
+reading_cause limit command bytes failure.Differs why = absurd why
+
+-- one that isn't read after an image
+pub limited_cause : (limit within : ℕ) (command : Command) (bytes : List ℕ) (front : BeginWithImage bytes)
+    (f : Failure) → IsLimited within (drop front.place bytes) f → IsCauseIn (ImageAndText limit within) command bytes f
+limited_cause limit within command bytes front failure.Usage why = why
+limited_cause limit within command bytes front (failure.Refused refusal) why = record { front = front; holds = why }
+limited_cause limit within command bytes front (failure.TooLarge fault) why = absurd why
+limited_cause limit within command bytes front (failure.TooLong most) why =
+    (why.0, record { front = front; holds = why.1 })
+limited_cause limit within command bytes front (failure.BadImage cause) why = absurd why
+limited_cause limit within command bytes front failure.ReadFault why = why
+limited_cause limit within command bytes front failure.WriteFault why = why
+limited_cause limit within command bytes front failure.OutOfMemory why = tt
+limited_cause limit within command bytes front (failure.BadObject index cause) why = absurd why
+limited_cause limit within command bytes front (failure.BadJoin fault) why = absurd why
+limited_cause limit within command bytes front (failure.NoSection name) why = absurd why
+limited_cause limit within command bytes front (failure.BadPolicy line) why = absurd why
+limited_cause limit within command bytes front failure.Differs why = absurd why
+
+-- one whose program isn't compiled, or isn't that of the image
+pub another_cause : (limit within : ℕ) (command : Command) (bytes : List ℕ) (front : BeginWithImage bytes)
+    (program : ProgramTree) (f : Failure) → length (drop front.place bytes) ≤ within →
+    Accepts (drop front.place bytes) program → section_of command ≡ None → IsTrue (compiles command) →
+    IsAnotherCompiling program front.image f → IsCauseIn (ImageAndText limit within) command bytes f
+another_cause limit within command bytes front program failure.Usage short accepted plain compiled why = why
+another_cause limit within command bytes front program (failure.Refused refusal) short accepted plain compiled why =
+    absurd why
+another_cause limit within command bytes front program (failure.TooLarge fault) short accepted plain compiled why =
+    record {
+      front = front;
+      holds = (
+        short,
+        record {
+          program = program;
+          accepted = accepted;
+          there = asks_none command plain program;
+          compiled = compiled;
+          found = why;
+        },
+      );
+    }
+another_cause limit within command bytes front program (failure.TooLong most) short accepted plain compiled why =
+    absurd why
+another_cause limit within command bytes front program (failure.BadImage cause) short accepted plain compiled why =
+    absurd why
+another_cause limit within command bytes front program failure.ReadFault short accepted plain compiled why = why
+another_cause limit within command bytes front program failure.WriteFault short accepted plain compiled why = why
+another_cause limit within command bytes front program failure.OutOfMemory short accepted plain compiled why = tt
+another_cause limit within command bytes front program (failure.BadObject index cause) short accepted plain compiled
+    why = absurd why
+another_cause limit within command bytes front program (failure.BadJoin fault) short accepted plain compiled why =
+    absurd why
+another_cause limit within command bytes front program (failure.NoSection name) short accepted plain compiled why =
+    absurd why
+another_cause limit within command bytes front program (failure.BadPolicy line) short accepted plain compiled why =
+    absurd why
+another_cause limit within command bytes front program failure.Differs short accepted plain compiled why =
+    record {
+      front = front;
+      holds = (
+        short,
+        record {
+          program = program;
+          accepted = accepted;
+          there = asks_none command plain program;
+          another = why;
+        },
+      );
+    }
+
+-- what is at fault after a policy
+pub policy_cause : (i : Intake) (command : Command) (bytes : List ℕ) (read : PolicyRead) (f : Failure) →
+    IsPolicyRead bytes read → ((line : ℕ) → HasBadLineIn i (drop read.rest bytes) line → ⊥) →
+    ((index cause : ℕ) → HasBadObjectIn i (drop read.rest bytes) index cause → ⊥) →
+    ((fault : join.BadJoin) → HasBadJoinIn i (drop read.rest bytes) fault → ⊥) →
+    IsCauseIn i command (drop read.rest bytes) f → IsCauseIn (AfterPolicy i) command bytes f
+policy_cause i command bytes read failure.Usage is lines objects joins why = why
+policy_cause i command bytes read (failure.Refused refusal) is lines objects joins why =
+    record { read = read; is = is; holds = why }
+policy_cause i command bytes read (failure.TooLarge fault) is lines objects joins why =
+    record { read = read; is = is; holds = why }
+policy_cause i command bytes read (failure.TooLong most) is lines objects joins why =
+    record { read = read; is = is; holds = why }
+policy_cause i command bytes read (failure.BadImage cause) is lines objects joins why =
+    record { read = read; is = is; holds = why }
+policy_cause i command bytes read failure.ReadFault is lines objects joins why = why
+policy_cause i command bytes read failure.WriteFault is lines objects joins why = why
+policy_cause i command bytes read failure.OutOfMemory is lines objects joins why = tt
+policy_cause i command bytes read (failure.BadObject index cause) is lines objects joins why =
+    absurd (objects index cause why)
+policy_cause i command bytes read (failure.BadJoin fault) is lines objects joins why = absurd (joins fault why)
+policy_cause i command bytes read (failure.NoSection name) is lines objects joins why =
+    record { read = read; is = is; holds = why }
+policy_cause i command bytes read (failure.BadPolicy line) is lines objects joins why = absurd (lines line why)
+policy_cause i command bytes read failure.Differs is lines objects joins why =
+    record { read = read; is = is; holds = why }
+
+-- the same of a run that is accounted for
+pub judged_cause : (image : Bool) (command : Command) (bytes : List ℕ) (read : PolicyRead) (f : Failure) →
+    IsPolicyRead bytes read → IsCauseIn (accounted_intake image) command (drop read.rest bytes) f →
+    IsCauseIn (AfterPolicy (accounted_intake image)) command bytes f
+judged_cause true command bytes read f is why =
+    policy_cause (accounted_intake true) command bytes read f is (λ line h. h) (λ index cause h. h) (λ fault h. h) why
+judged_cause false command bytes read f is why =
+    policy_cause (accounted_intake false) command bytes read f is (λ line h. h) (λ index cause h. h) (λ fault h. h) why
 
 -- ONE OUTPUT
 
@@ -94,7 +225,7 @@ same_output commands.Compile program one other same = ap (output commands.Compil
 same_output (commands.Object options) program one other same = refl
 same_output commands.Link program one other same = refl
 same_output (commands.Run options) program one other same = ap (output (commands.Run options) program) (same refl)
-same_output (commands.Explain options show) program one other same = refl
+same_output (commands.Explain options) program one other same = refl
 same_output (commands.Judge options) program one other same = refl
 same_output (commands.Exec options) program one other same = refl
 same_output (commands.Tags options range) program one other same = refl
@@ -171,8 +302,8 @@ module _
         one_object options.section bytes text other is known
     one_output commands.Link bytes text other is known = one_linked one_list bytes text other is known
     one_output (commands.Run options) bytes text other is known = one_text _ bytes text other is known
-    one_output (commands.Explain options show) bytes text other is known =
-        one_account one_program options show bytes text other is known
+    one_output (commands.Explain options) bytes text other is known =
+        one_account one_program options bytes text other is known
     one_output (commands.Judge options) bytes text other is known =
         one_verdict one_program one_policy options bytes text other is known
     one_output (commands.Exec options) bytes text other is known = one_run one options bytes text other is known

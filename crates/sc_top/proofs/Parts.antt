@@ -1,25 +1,28 @@
 -- Bytes begin with one image at most, and then there is no cause for which they begin with none.
-use Rattle.sc_top.proofs.Common.{BadImage, BeginsWithImage, ImageParts, List, None, Ok, Option, Result, ap, bad_part}
-use Rattle.sc_top.proofs.Common.{cause_number, none-some, option_map, part_cause_in, read_cause, subst, sym, ℕ, ◌×◌}
-use Rattle.sc_top.proofs.Common.{◌∙◌, ◌≡◌, Some}
-use Rattle.sc_image.proofs.Whole.{part_is_read_again}
-use Rattle.sc_image.specs.Prelude.{image_part_in}
+use Rattle.sc_top.proofs.Common.{BeginWithImage, List, Ok, Some, ap, cause_number, drop}
+use Rattle.sc_top.proofs.Common.{none-some, option_map, part_cause_in, read_cause, subst, sym, take, take-append-drop, ℕ}
+use Rattle.sc_top.proofs.Common.{◌∙◌, ◌≡◌}
+use Rattle.sc_image.proofs.Whole.{begin_with_one, is_begun_again}
+unfoldable use Rattle.sc_image.specs.Prelude.{image_at}
+
+pub one_front : (bytes : List ℕ) (one other : BeginWithImage bytes) →
+    (one.image ≡ other.image) × (one.place ≡ other.place)
+one_front bytes one other =
+    begin_with_one bytes one.image other.image one.place other.place one.well_formed other.well_formed one.begin
+    other.begin
+
+-- the same of the bytes after it
+pub one_rest : (bytes : List ℕ) (one other : BeginWithImage bytes) → drop one.place bytes ≡ drop other.place bytes
+one_rest bytes one other = ap (λ n. drop n bytes) (one_front bytes one other).1
 
 -- the image with which the bytes begin is read, and the rest is left
-is_read : (bytes : List ℕ) (image : ImageParts) (rest : List ℕ) → BeginsWithImage bytes image rest →
-    image_part_in bytes ≡ Ok (image, rest)
-is_read bytes image rest begins =
-    subst (λ b. image_part_in b ≡ Ok (image, rest)) (sym begins.whole)
-    (part_is_read_again image begins.front rest begins.well_formed begins.bytes_are)
+is_read : (bytes : List ℕ) (front : BeginWithImage bytes) →
+    image_at bytes ≡ Ok (front.image, drop front.place bytes)
+is_read bytes front =
+    ap image_at (sym (take-append-drop front.place bytes)) ∙
+    is_begun_again front.image (take front.place bytes) (drop front.place bytes) front.well_formed front.begin.are
 
-pub one_part : (bytes : List ℕ) (one other : ImageParts) (rest more : List ℕ) → BeginsWithImage bytes one rest →
-    BeginsWithImage bytes other more → (one ≡ other) × (rest ≡ more)
-one_part bytes one other rest more begins known =
-    let same = sym (is_read bytes one rest begins) ∙ is_read bytes other more known in
-    (cc same, cc same)
-
-pub part_good : (bytes : List ℕ) (image : ImageParts) (rest : List ℕ) (cause : ℕ) → BeginsWithImage bytes image rest →
-    part_cause_in bytes ≡ Some cause → ⊥
-part_good bytes image rest cause begins bad =
+pub front_good : (bytes : List ℕ) (cause : ℕ) → BeginWithImage bytes → part_cause_in bytes ≡ Some cause → ⊥
+front_good bytes cause front bad =
     none-some cause
-    (sym (ap (λ found. option_map cause_number (read_cause found)) (is_read bytes image rest begins)) ∙ bad)
+    (sym (ap (λ found. option_map cause_number (read_cause found)) (is_read bytes front)) ∙ bad)

@@ -162,23 +162,24 @@ HasLongTextIn Nothing bytes most = ⊥
 abbrev pub FindsLongText : Command → List ℕ → (limit : ℕ) → Type 0
 FindsLongText command bytes limit = HasLongTextIn (intake command) bytes limit
 
--- the text is accepted, its program fits, and for no set of given compartments the image is the program's own but for
--- them
-pub record IsOfAnother (image : ImageParts) (text : List ℕ) : Type 0 where
+-- the text is accepted, with the section that the command asks for, its program fits, and for no set of given
+-- compartments the image is the program's own but for them
+pub record IsOfAnother (command : Command) (image : ImageParts) (text : List ℕ) : Type 0 where
   pub program : ProgramTree
   pub accepted : Accepts text program
+  pub there : HasSection command program
   pub another : IsAnotherProgram program image
 
-abbrev pub DiffersIn : Intake → List ℕ → Type 0
-DiffersIn (ImageAndText limit within) bytes = HoldsOfBoth within bytes IsOfAnother
-DiffersIn (AfterPolicy following) bytes = HoldsAfterPolicy bytes (DiffersIn following)
-DiffersIn (Text limit) bytes = ⊥
-DiffersIn (Image limit) bytes = ⊥
-DiffersIn (Objects limit) bytes = ⊥
-DiffersIn Nothing bytes = ⊥
+abbrev pub DiffersIn : Intake → Command → List ℕ → Type 0
+DiffersIn (ImageAndText limit within) command bytes = HoldsOfBoth within bytes (IsOfAnother command)
+DiffersIn (AfterPolicy following) command bytes = HoldsAfterPolicy bytes (DiffersIn following command)
+DiffersIn (Text limit) command bytes = ⊥
+DiffersIn (Image limit) command bytes = ⊥
+DiffersIn (Objects limit) command bytes = ⊥
+DiffersIn Nothing command bytes = ⊥
 
 abbrev pub FindsAnother : Command → List ℕ → Type 0
-FindsAnother command bytes = DiffersIn (intake command) bytes
+FindsAnother command bytes = DiffersIn (intake command) command bytes
 
 -- What each status says.
 

@@ -1,8 +1,8 @@
 -- What a command reads.
 use Rattle.sc_base.specs.Prelude.{most_compiled, most_image, most_text}
 use Rattle.sc_top.specs.Common.{Command}
-use Rattle.std.specs.Prelude.{◌≡◌, ◌≤◌, ℕ, Bool, true, false, List, ◌++◌, drop, length, Option, Some, None}
-use Rattle.sc_image.specs.Prelude.{AreBytesOf, IsWellFormed}
+use Rattle.std.specs.Prelude.{◌≤◌, ℕ, Bool, true, false, List, drop, length, Option, Some, None}
+use Rattle.sc_image.specs.Prelude.{BeginWithImage}
 use Rattle.sc_image.specs.declared.parts.ImageParts.{ImageParts}
 use Rattle.sc_policy.specs.Prelude.{IsPolicyRead}
 use Rattle.sc_policy.specs.declared.read.PolicyRead.{PolicyRead}
@@ -56,19 +56,10 @@ pub record HoldsAfterPolicy (bytes : List ℕ) (Q : List ℕ → Type 0) : Type 
   pub is : IsPolicyRead bytes read
   pub holds : Q (drop read.rest bytes)
 
--- the bytes begin with those of an image, and the rest follows them
-pub record BeginsWithImage (bytes : List ℕ) (image : ImageParts) (rest : List ℕ) : Type 0 where
-  pub front : List ℕ
-  pub well_formed : IsWellFormed image
-  pub bytes_are : AreBytesOf image front
-  pub whole : bytes ≡ front ++ rest
-
--- the bytes begin with an image, and this holds of it and of those that follow it
+-- the bytes begin with those of an image, and this holds of it and of the bytes that follow it
 pub record HoldsAfterImage (bytes : List ℕ) (Q : ImageParts → List ℕ → Type 0) : Type 0 where
-  pub image : ImageParts
-  pub rest : List ℕ
-  pub begins : BeginsWithImage bytes image rest
-  pub holds : Q image rest
+  pub front : BeginWithImage bytes
+  pub holds : Q front.image (drop front.place bytes)
 
 -- the bytes begin with an image, a text of at most so many bytes follows it, and this holds of both
 abbrev pub HoldsOfBoth : (within : ℕ) → List ℕ → (Q : ImageParts → List ℕ → Type 0) → Type 0

@@ -104,7 +104,7 @@ IsCauseIn i command bytes (BadObject index cause) = HasBadObjectIn i bytes index
 IsCauseIn i command bytes (BadJoin fault) = HasBadJoinIn i bytes fault
 IsCauseIn i command bytes (NoSection name) = HoldsOfText i bytes (λ text. LacksSection command text name)
 IsCauseIn i command bytes (BadPolicy line) = HasBadLineIn i bytes line
-IsCauseIn i command bytes Differs = DiffersIn i bytes
+IsCauseIn i command bytes Differs = DiffersIn i command bytes
 IsCauseIn i command bytes OutOfMemory = Unit {0}
 IsCauseIn i command bytes _ = ⊥
 

@@ -1,7 +1,6 @@
 -- What each command writes for the program of a text and its image, or for an image.
 use Rattle.sc_top_words.specs.Words.{most_steps}
 use Rattle.sc_base.specs.Prelude.{most_compiled, most_events, most_text}
-use Rattle.sc_top.specs.Command.{BeginsWithImage}
 use Rattle.sc_top.specs.Common.{Accepts, Command, Interfaces, IsCompiled, IsExplained, IsImage, IsImageExplained}
 use Rattle.sc_top.specs.Common.{IsButFor, IsSource}
 use Rattle.sc_top.specs.Common.{ProgramTree, MachineRun, SourceParts, image_bytes, image_of}
@@ -9,6 +8,7 @@ use Rattle.sc_top.specs.Common.{image_interfaces, machine}
 use Rattle.sc_top.specs.Common.{too_large}
 use Rattle.sc_word.specs.Prelude.{word_of}
 use Rattle.sc_core.specs.Prelude.{meaning}
+use Rattle.sc_image.specs.Prelude.{BeginWithImage}
 use Rattle.sc_image.specs.declared.parts.ImageParts.{ImageParts}
 use Rattle.sc_top_words.specs.declared.command.RunOptions.{RunOptions}
 use Rattle.std.specs.Prelude.{◌≡◌, ◌≤◌, ◌++◌, ℕ, Bool, true, false, IsTrue, List, [], length, map, drop, Option, Some}
@@ -145,9 +145,9 @@ HasExplanation options bytes = HasAccount options None bytes
 
 -- an image stands before the text, which isn't too long to be compiled
 pub record HasImageBefore (bytes : List ℕ) (image : Option ImageParts) (text : List ℕ) : Type 0 where
-  pub found : ImageParts
-  pub is : image ≡ Some found
-  pub begins : BeginsWithImage bytes found text
+  pub front : BeginWithImage bytes
+  pub is : image ≡ Some front.image
+  pub rest : text ≡ drop front.place bytes
   pub short : length text ≤ most_compiled
 
 -- the bytes are an image and then the text, or the text alone
