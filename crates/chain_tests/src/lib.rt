@@ -4,6 +4,8 @@
 #[cfg(test)]
 mod chains;
 #[cfg(test)]
+mod given;
+#[cfg(test)]
 mod meant;
 #[cfg(test)]
 mod sets;

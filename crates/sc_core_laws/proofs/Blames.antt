@@ -159,14 +159,12 @@ module _ (L : Denotations) (obedient : Obedient L) (globals : Memory) (inputs : 
 
 -- a compartment at or above the number doesn't count
 above_counts : (set : CompSet) (comp n : ℕ) → n ≤ comp → count_outside (with comp set) n ≡ count_outside set n
-unfolding count_outside
 above_counts set comp zero le = refl
 above_counts set comp (suc n) le = grind (arith, ne_eqb n comp, above_counts set comp n (omega (arith, le)))
 
 -- one below it that isn't of the set counts once
 below_counts : (set : CompSet) (comp n : ℕ) → set comp ≡ false → comp < n → suc (count_outside (with comp set) n) ≡ count_outside
     set n
-unfolding count_outside
 below_counts set comp zero clear lt = absurd (omega (arith, lt))
 below_counts set comp (suc n) clear lt = grind (
   arith,
@@ -179,7 +177,6 @@ below_counts set comp (suc n) clear lt = grind (
 
 -- at most all are outside of a set
 pub outside_few : (set : CompSet) (n : ℕ) → count_outside set n ≤ n
-unfolding count_outside
 outside_few set zero = omega arith
 outside_few set (suc n) = by (set n) (outside_few set n) where
   by : (is : Bool) → count_outside set n ≤ n → (if is then 0 else 1) + count_outside set n ≤ suc n
@@ -188,7 +185,6 @@ outside_few set (suc n) = by (set n) (outside_few set n) where
 
 -- all are outside of the empty set
 pub all_outside : (n : ℕ) → count_outside nobody n ≡ n
-unfolding count_outside
 all_outside zero = refl
 all_outside (suc n) = let rest = all_outside n in omega (arith, rest)
 

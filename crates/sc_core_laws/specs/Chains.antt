@@ -23,7 +23,7 @@ abbrev pub with : ℕ → CompSet → CompSet
 with more set comp = comp == more || set comp
 
 -- the number of compartments below a bound that are not in a set
-pub count_outside : CompSet → ℕ → ℕ
+abbrev pub count_outside : CompSet → ℕ → ℕ
 count_outside set zero = 0
 count_outside set (suc bound) = (if set bound then 0 else 1) + count_outside set bound
 

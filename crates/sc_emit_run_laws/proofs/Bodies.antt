@@ -43,8 +43,8 @@ own_by program comp number count (Some f) its h =
       words = (and_parts (passes_words f.params f.objects) true one.1).0;
     }
 
-module _ {program : TacTree} {image : ImageParts} {turn_pays : ℕ} (built : IsBuilt program image turn_pays)
-    (inputs : List ℕ) (words : All IsWord inputs) (roles : Roles) where
+module _ (roles : Roles) {program : TacTree} {image : ImageParts} {turn_pays : ℕ}
+    (built : IsBuilt roles.scripted program image turn_pays) (inputs : List ℕ) (words : All IsWord inputs) where
   abbrev T : Setting
   T = setting program image inputs roles.scripted turn_pays built.addresses
 
@@ -64,7 +64,7 @@ module _ {program : TacTree} {image : ImageParts} {turn_pays : ℕ} (built : IsB
           let own : IsOwn program P.comp number (length args) =
           own_by program P.comp number (length args) (slice_get (functions_in program P.comp) number) refl makes in
           let code : HasCode image (built.addresses P.comp) turn_pays P.comp number own.f =
-          built.linked.functions P.comp number own.f own.its in
+          built.linked.functions P.comp number own.f (not_scripted P.comp honest) own.its in
           let address : ℕ = (built.addresses P.comp).function number in
           let word = word_there image (built.addresses P.comp) turn_pays P.comp number own.f code in
           let ra_is : ℕ = x.pc + 4 in
@@ -122,7 +122,7 @@ module _ {program : TacTree} {image : ImageParts} {turn_pays : ℕ} (built : IsB
       cross_by true to index is makes stands =
           perform P x to index args honest is makes settled base at_base passed stands
       cross_by false to index is makes stands =
-          cross_follows built inputs words roles n runs P x to index args is makes settled base at_base passed stands
+          cross_follows roles built inputs words n runs P x to index args is makes settled base at_base passed stands
 
       follow : (target : CallTarget) → T.makes P.comp target (length args) ≡ true → CallStands T P x target →
           CallComes T P x target (calls_of program roles n P.comp target args x.meant)
@@ -156,7 +156,7 @@ module _ {program : TacTree} {image : ImageParts} {turn_pays : ℕ} (built : IsB
   pub none_follow : BodiesFollow program roles T 0
   none_follow P x number f args ra_is its passes long starts =
       let code : HasCode image (built.addresses P.comp) turn_pays P.comp number f =
-      built.linked.functions P.comp number f its in (
+      built.linked.functions P.comp number f (not_scripted P.comp starts.honest) its in (
         length code.code.instrs,
         (
           code.paid,
@@ -175,7 +175,7 @@ module _ {program : TacTree} {image : ImageParts} {turn_pays : ℕ} (built : IsB
       BodiesFollow program roles T (suc n)
   more_follow n runs perform P x number f args ra_is its passes long starts =
       let code : HasCode image (built.addresses P.comp) turn_pays P.comp number f =
-      built.linked.functions P.comp number f its in
+      built.linked.functions P.comp number f (not_scripted P.comp starts.honest) its in
       let budget : ℕ = length code.code.instrs in
       let F : Function = code_function wrapping f in
       let first : ℕ = length (x.meant.memory P.comp) in
@@ -190,7 +190,7 @@ module _ {program : TacTree} {image : ImageParts} {turn_pays : ℕ} (built : IsB
               Overflows T P x budget (and_then piece end))
               (sym (does_is n number here f start honest its))
               (code.emitted.follows T P.comp ((built.addresses P.comp).function number)
-              (is_placed built inputs words roles.scripted P.comp number f
+              (is_placed built inputs words P.comp number f
               honest its passes code) (calls_of program roles n)
               (calls_follow n runs perform) P x args ra_is refl long starts),
         ),

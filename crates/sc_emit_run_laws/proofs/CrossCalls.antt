@@ -55,8 +55,8 @@ was_reached (Reached u t) end v s h =
     let same : u ≡ v = cc h in record { state = t; is = ap (λ u. Reached u t) same }
 was_reached (Stopped e t) end v s h = cc h
 
-module _ {program : TacTree} {image : ImageParts} {turn_pays : ℕ} (built : IsBuilt program image turn_pays)
-    (inputs : List ℕ) (words : All IsWord inputs) (roles : Roles) where
+module _ (roles : Roles) {program : TacTree} {image : ImageParts} {turn_pays : ℕ}
+    (built : IsBuilt roles.scripted program image turn_pays) (inputs : List ℕ) (words : All IsWord inputs) where
   abbrev T : Setting
   T = setting program image inputs roles.scripted turn_pays built.addresses
 
@@ -215,7 +215,7 @@ module _ {program : TacTree} {image : ImageParts} {turn_pays : ℕ} (built : IsB
           led.enters led.its
 
       code : HasCode image (built.addresses to) turn_pays to led.number led.f
-      code = built.linked.functions to led.number led.f led.its
+      code = built.linked.functions to led.number led.f honest led.its
 
       honest_there : T.performs to ≡ false
       honest_there =
@@ -226,7 +226,7 @@ module _ {program : TacTree} {image : ImageParts} {turn_pays : ℕ} (built : IsB
       enters : EntersBy image to entry address
       enters =
           subst (λ e. EntersBy image to e address) (sym entry_is)
-          (built.linked.entries P.comp to index led.number led.enters)
+          (built.linked.entries P.comp to index led.number honest led.enters)
 
       module _ (word : ℕ) (there : word_at image to address ≡ Some word) where
         walks_inside : Walks image inputs 1 (machine Q entering) (machine Q y)

@@ -49,8 +49,8 @@ pub word_given : (T : Setting) (place : ℕ → Option ℕ) (a : ℕ) (v : Optio
 word_given T place a v w is given =
     (subst (ReturnsValue T place a) is given).means ∙ sym (ap exit_word is)
 
-module _ (program : TacTree) (image : ImageParts) (turn_pays : ℕ) (built : IsBuilt program image turn_pays)
-    (inputs : List ℕ) (turns : ℕ) where
+module _ (program : TacTree) (image : ImageParts) (turn_pays : ℕ)
+    (built : IsBuilt nobody.scripted program image turn_pays) (inputs : List ℕ) (turns : ℕ) where
   abbrev denotations : Denotations
   denotations = code_denotations wrapping program
 
@@ -64,10 +64,10 @@ module _ (program : TacTree) (image : ImageParts) (turn_pays : ℕ) (built : IsB
   T = setting program image inputs nobody.scripted turn_pays built.addresses
 
   abbrev P : Standpoint
-  P = P' built inputs nobody.scripted turns
+  P = P' built inputs turns
 
   abbrev x : Joint
-  x = x' built inputs nobody.scripted turns
+  x = x' built inputs turns
 
   abbrev body : Body
   body = within (run_step denotations) (suc turns)
@@ -244,6 +244,6 @@ module _ (program : TacTree) (image : ImageParts) (turn_pays : ℕ) (built : IsB
   outcome follow =
       let ran_is : IsFollowed (ran program nobody (suc turns) image.main number f [] x.meant) =
       follow (suc turns) P x number f [] gate its (rw there.lone refl) (sym there.lone)
-      (begins built inputs nobody.scripted turns refl number f there.enters) in
+      (begins built inputs turns refl number f there.enters) in
       let is : IsFollowed whole = subst IsFollowed (sym whole_ran) ran_is in
       subst (Outcome image inputs bound turns) (sym run_is) (outcome_of is.0 is.1.0 is.1.1)

@@ -9,8 +9,8 @@ use Rattle.sc_emit_run_laws.proofs.Bodies.{more_follow, none_follow}
 use Rattle.sc_emit_run_laws.proofs.Unknown.{followed}
 use Rattle.sc_emit_run_laws.proofs.Performing.{performers_follow}
 
-module _ {program : TacTree} {image : ImageParts} {turn_pays : ℕ} (built : IsBuilt program image turn_pays)
-    (inputs : List ℕ) (words : All IsWord inputs) (set : ℕ → Bool) (t : List Event)
+module _ {program : TacTree} {image : ImageParts} {turn_pays : ℕ} {set : ℕ → Bool}
+    (built : IsBuilt set program image turn_pays) (inputs : List ℕ) (words : All IsWord inputs) (t : List Event)
     (observed : HasEmitted image inputs t) (lawful : legal program.interfaces t ≡ true) where
   abbrev roles : Roles
   roles = roles_in program.interfaces.main set t
@@ -38,17 +38,17 @@ module _ {program : TacTree} {image : ImageParts} {turn_pays : ℕ} (built : IsB
   more_perform n all P x number first h =
       subst (UnknownComes program roles T P x)
       (sym (performs_is n number (record { comp = P.comp; first = first }) x.meant h.performs))
-      (followed built inputs words set t observed lawful n P
+      (followed built inputs words t observed lawful n P
       number first h.performs h.entered all.run all.perform h.floors x h.settled)
 
   pub all_follow : (n : ℕ) → AllFollow n
   all_follow zero = record {
-    run = none_follow built inputs words roles;
+    run = none_follow roles built inputs words;
     perform = λ P x number first h. inl (emits_here T P x 0);
   }
   all_follow (suc n) =
       let all : AllFollow n = all_follow n in
       record {
-        run = more_follow built inputs words roles n all.run (performers_follow built inputs words roles n all.perform);
+        run = more_follow roles built inputs words n all.run (performers_follow roles built inputs words n all.perform);
         perform = more_perform n all;
       }

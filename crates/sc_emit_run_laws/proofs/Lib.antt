@@ -9,6 +9,7 @@ pub mod Environment
 pub mod Exports
 pub mod Finish
 pub mod Following
+pub mod Given
 pub mod Kept
 pub mod Made
 pub mod OwnCalls

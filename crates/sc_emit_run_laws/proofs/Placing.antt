@@ -173,8 +173,8 @@ module _ (program : TacTree) (comp : ℕ) (section : TacSection) where
     pub calls_all : (stmts : List TacStmt) → AllPass rules_of stmts → everywhere its_calls stmts ≡ true
     calls_all stmts all = implied_everywhere rules_of its_calls calls_here stmts all
 
-module _ {program : TacTree} {image : ImageParts} {turn_pays : ℕ} (built : IsBuilt program image turn_pays)
-    (inputs : List ℕ) (words : All IsWord inputs) (performs : ℕ → Bool) where
+module _ {program : TacTree} {image : ImageParts} {turn_pays : ℕ} {performs : ℕ → Bool}
+    (built : IsBuilt performs program image turn_pays) (inputs : List ℕ) (words : All IsWord inputs) where
   abbrev T : Setting
   T = setting program image inputs performs turn_pays built.addresses
 
@@ -182,11 +182,11 @@ module _ {program : TacTree} {image : ImageParts} {turn_pays : ℕ} (built : IsB
       length (code_globals program.sections comp) ≡ length section.globals
   globals_are comp section here = ap (λ o. length (first_blocks o)) here ∙ length-map section.globals _
 
-  global_place : (comp number : ℕ) (section : TacSection) → slice_get program.sections comp ≡ Some section →
-      number < length section.globals → IsAddress ((built.addresses comp).global number)
-  global_place comp number section here below =
+  global_place : (comp number : ℕ) (section : TacSection) → performs comp ≡ false →
+      slice_get program.sections comp ≡ Some section → number < length section.globals → IsAddress ((built.addresses comp).global number)
+  global_place comp number section honest here below =
       let its = is_there section.globals number below in
-      (built.linked.globals comp number _
+      (built.linked.globals comp number _ honest
       (ap live_cells (ap (λ o. slice_get (first_blocks o) number) here ∙ slice_get-map _ section.globals number ∙
       ap (option_map _) its.1))).is_address
 
@@ -236,7 +236,7 @@ module _ {program : TacTree} {image : ImageParts} {turn_pays : ℕ} (built : IsB
             ltb-true other (length at.section.globals) h,
           );
           places = λ other h.
-              global_place comp other at.section at.here (ltb-true other (length at.section.globals) h);
+              global_place comp other at.section honest at.here (ltb-true other (length at.section.globals) h);
         };
         heap = code.heap;
         words = passed;

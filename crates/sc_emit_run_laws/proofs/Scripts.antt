@@ -22,8 +22,8 @@ use Rattle.sc_emit_run_laws.proofs.Sections.{function_found}
 use Rattle.sc_emit_run_laws.proofs.Start.{IsMain, P as P', base, begins, main_there, settled, x as x'}
 use Rattle.sc_emit_run_laws.proofs.UnknownFrames.{settled_started, started}
 
-module _ (program : TacTree) (image : ImageParts) (turn_pays : ℕ) (built : IsBuilt program image turn_pays)
-    (inputs : List ℕ) (steps events : ℕ) (set : ℕ → Bool) where
+module _ (program : TacTree) (image : ImageParts) (turn_pays : ℕ) (set : ℕ → Bool)
+    (built : IsBuilt set program image turn_pays) (inputs : List ℕ) (steps events : ℕ) where
   -- the machine's trace
   abbrev pub trace : List Event
   trace = (ran_by image inputs steps events).state.trace
@@ -44,10 +44,10 @@ module _ (program : TacTree) (image : ImageParts) (turn_pays : ℕ) (built : IsB
   T = setting program image inputs set turn_pays built.addresses
 
   abbrev pub P : Standpoint
-  P = P' built inputs set steps
+  P = P' built inputs steps
 
   abbrev pub x : Joint
-  x = x' built inputs set steps
+  x = x' built inputs steps
 
   abbrev body : Body
   body = bodies program roles (suc steps)
@@ -216,7 +216,7 @@ module _ (program : TacTree) (image : ImageParts) (turn_pays : ℕ) (built : IsB
     runs_code follow =
         let run : IsRun program roles T (suc steps) there.number there.f P x [] gate =
         follow (suc steps) P x there.number there.f [] gate its (rw there.lone refl) (sym there.lone)
-        (begins built inputs set steps honest there.number there.f there.enters) in
+        (begins built inputs steps honest there.number there.f there.enters) in
         ⊎_elim (λ gives. inl (gives_by run.0 main_ran refl gives)) (λ over. inr (overflow_traps run.0 main_ran over))
         run.1.1
 
@@ -241,8 +241,8 @@ module _ (program : TacTree) (image : ImageParts) (turn_pays : ℕ) (built : IsB
     unknown : IsUnknown program roles T P opened there.number
     unknown = record {
       performs = performing;
-      settled = settled_started T P image.main unknown_main F [] x (settled built inputs set steps);
-      floors = (base built inputs set steps).floors;
+      settled = settled_started T P image.main unknown_main F [] x (settled built inputs steps);
+      floors = (base built inputs steps).floors;
       entered = ap (λ c. function_entered Main (slice_get program.sections c)) built.linked.main ∙ there.enters;
     }
 

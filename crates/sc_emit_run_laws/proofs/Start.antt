@@ -152,8 +152,8 @@ placed_only count place b a h = by (nat_lt b count) refl h where
   by true is h = (ltb-true b count is, sym (same_Some (place b) a h))
   by false is h = cc h
 
-module _ {program : TacTree} {image : ImageParts} {turn_pays : ℕ} (built : IsBuilt program image turn_pays)
-    (inputs : List ℕ) (performs : ℕ → Bool) (turns : ℕ) where
+module _ {program : TacTree} {image : ImageParts} {turn_pays : ℕ} {performs : ℕ → Bool}
+    (built : IsBuilt performs program image turn_pays) (inputs : List ℕ) (turns : ℕ) where
   abbrev pub T : Setting
   T = setting program image inputs performs turn_pays built.addresses
 
@@ -187,6 +187,9 @@ module _ {program : TacTree} {image : ImageParts} {turn_pays : ℕ} (built : IsB
       ltb-true k (length image.comps)
       (not_false (nat_lt k (length image.comps)) (or_parts (performs k) (not (nat_lt k (length image.comps))) honest).1)
 
+  runs_code : (k : ℕ) → T.performs k ≡ false → performs k ≡ false
+  runs_code k honest = (or_parts (performs k) (not (nat_lt k (length image.comps))) honest).0
+
   blocks : BlocksMatch T.image T.performs P.floor x.inj x.meant.memory x.bytes
   blocks = record {
     there = λ k b cells honest live. (
@@ -194,18 +197,18 @@ module _ {program : TacTree} {image : ImageParts} {turn_pays : ℕ} (built : IsB
       placed_below (length (globals k)) (built.addresses k).global b (live_within (globals k) b cells live),
     );
     placed = λ k b a cells honest live e. subst (λ a. Placed image (stack_top k) k a (length cells))
-        (sym (at_place k b a e)) (built.linked.globals k b cells live).placed;
+        (sym (at_place k b a e)) (built.linked.globals k b cells (runs_code k honest) live).placed;
     holds = λ k b a i cells c honest live e at.
         subst (λ a. InCell (first_inj k) (word (start_memory image) (a + 4 * i)) c) (sym (at_place k b a e))
-        (in_cell (first_inj k) _ c ((built.linked.globals k b cells live).holds i c at));
+        (in_cell (first_inj k) _ c ((built.linked.globals k b cells (runs_code k honest) live).holds i c at));
     apart = λ k b c a d xs ys honest live more e f differ.
         subst (λ a. (a + 4 * length xs ≤ d) ⊎ (d + 4 * length ys ≤ a)) (sym (at_place k b a e))
         (subst (λ d. ((built.addresses k).global b + 4 * length xs ≤ d) ⊎
         (d + 4 * length ys ≤ (built.addresses k).global b))
-        (sym (at_place k c d f)) (built.linked.globals_apart k b c xs ys differ live more));
+        (sym (at_place k c d f)) (built.linked.globals_apart k b c xs ys (runs_code k honest) differ live more));
     lies = λ k b a block honest at live e. subst₂ (λ a place. LiesAt k a (length block.cells) place)
         (sym (at_place k b a e)) (sym (no_place (slice_get program.sections k) b block at))
-        (built.linked.globals k b block.cells (alive (globals k) b block at live)).below;
+        (built.linked.globals k b block.cells (runs_code k honest) (alive (globals k) b block at live)).below;
     known = λ k b a e. (placed_only (length (globals k)) (built.addresses k).global b a e).0;
   }
 
@@ -248,7 +251,8 @@ module _ {program : TacTree} {image : ImageParts} {turn_pays : ℕ} (built : IsB
     honest = main_honest honest;
     settled = settled;
     base = base;
-    pc = built.linked.main_at number entered ∙ ap (λ c. (built.addresses c).function number) (sym built.linked.main);
+    pc = built.linked.main_at number (subst (λ c. performs c ≡ false) built.linked.main honest) entered ∙
+        ap (λ c. (built.addresses c).function number) (sym built.linked.main);
     sp = refl;
     ra = refl;
     passed = λ i v e. cc e;

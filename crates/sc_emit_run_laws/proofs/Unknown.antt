@@ -79,8 +79,8 @@ module _ (T : Setting) (never : AllHonest T → ⊥) (P : Standpoint) where
 same_state : (s u : MachineState) → Steps s ≡ Steps u → s ≡ u
 same_state s u is = cc is
 
-module _ {program : TacTree} {image : ImageParts} {turn_pays : ℕ} (built : IsBuilt program image turn_pays)
-    (inputs : List ℕ) (words : All IsWord inputs) (set : ℕ → Bool) (t : List Event)
+module _ {program : TacTree} {image : ImageParts} {turn_pays : ℕ} {set : ℕ → Bool}
+    (built : IsBuilt set program image turn_pays) (inputs : List ℕ) (words : All IsWord inputs) (t : List Event)
     (observed : HasEmitted image inputs t) (lawful : legal program.interfaces t ≡ true) where
   abbrev roles : Roles
   roles = roles_in program.interfaces.main set t
@@ -331,7 +331,7 @@ module _ {program : TacTree} {image : ImageParts} {turn_pays : ℕ} (built : IsB
               enters program set t n P.comp number first x.meant (standing_in (machine P x)) entered built.rules to
               index passed next
 
-          led : IsLed built inputs words roles to index
+          led : IsLed roles built inputs words to index
           led = record { number = entry.number; enters = entry.enters; f = entry.f; its = entry.its }
 
           head : IsEntered program entry.f offer.proto
@@ -366,10 +366,10 @@ module _ {program : TacTree} {image : ImageParts} {turn_pays : ℕ} (built : IsB
               CallComes T P x (Cross to index)
               (call_cross denotations (bodies program roles n) P.comp to index values (turned left x.meant))
           callee_by true is left turns =
-              into_unknown built inputs words roles n P x to
+              into_unknown roles built inputs words n P x to
               index values offer led left target (made left turns) is perform
           callee_by false is left turns =
-              into_code built inputs words roles n P x to index values offer led left target (made left turns) is follow
+              into_code roles built inputs words n P x to index values offer led left target (made left turns) is follow
               (entry_is image to index target ((built.addresses P.comp).entry to index) export
               (built.linked.exports P.comp to index offer.proto offer.export))
 

@@ -29,8 +29,8 @@ given_as : (T : Setting) (place : ℕ → Option ℕ) (result : Bool) (w : ℕ) 
 given_as T place true w v word is = subst (ReturnsValue T place w) (sym is) (record { word = word; means = refl })
 given_as T place false w v word is = subst (ReturnsValue T place w) (sym is) tt
 
-module _ {program : TacTree} {image : ImageParts} {turn_pays : ℕ} (built : IsBuilt program image turn_pays)
-    (inputs : List ℕ) (words : All IsWord inputs) (roles : Roles) where
+module _ (roles : Roles) {program : TacTree} {image : ImageParts} {turn_pays : ℕ}
+    (built : IsBuilt roles.scripted program image turn_pays) (inputs : List ℕ) (words : All IsWord inputs) where
   abbrev T : Setting
   T = setting program image inputs roles.scripted turn_pays built.addresses
 
@@ -38,7 +38,7 @@ module _ {program : TacTree} {image : ImageParts} {turn_pays : ℕ} (built : IsB
   denotations = code_denotations wrapping program
 
   abbrev Led : (to index : ℕ) → Type 0
-  Led = IsLed built inputs words roles
+  Led = IsLed roles built inputs words
 
   module _ (n : ℕ) (P : Standpoint) (x : Joint) (to index : ℕ) (args : List Value)
       (offered : IsOffered program to index (length args)) (led : Led to index) (turns entry : ℕ)

@@ -9,11 +9,11 @@ use Rattle.sc_emit_run_laws.proofs.Emitted.{has_emitted}
 
 pub simulates : Simulates
 simulates program image turn_pays built inputs turns words =
-    outcome program image turn_pays built inputs turns (bodies_follow built inputs words nobody
+    outcome program image turn_pays built inputs turns (bodies_follow nobody built inputs words
     (λ n P x to index args honest scripted makes settled base at passed stands. cc scripted))
 
 pub scripts_simulate : ScriptsSimulate
-scripts_simulate program image turn_pays built inputs steps events set words is_legal =
+scripts_simulate program image turn_pays set built inputs steps events words is_legal =
     let observed : List Event = (machine image inputs steps events).state.trace in
-    let all = all_follow built inputs words set observed (has_emitted image inputs events steps) is_legal in
-    keeps program image turn_pays built inputs steps events set is_legal (λ n. (all n).run) (λ n. (all n).perform)
+    let all = all_follow built inputs words observed (has_emitted image inputs events steps) is_legal in
+    keeps program image turn_pays set built inputs steps events is_legal (λ n. (all n).run) (λ n. (all n).perform)

@@ -1,6 +1,7 @@
 pub mod Common
 pub mod Prelude
 pub mod Bodies
+pub mod Given
 pub mod Linked
 pub mod Moments
 pub mod Outcomes

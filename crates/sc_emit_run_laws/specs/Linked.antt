@@ -89,22 +89,24 @@ pub record GlobalStands (image : ImageParts) (comp address : ℕ) (cells : List 
   pub holds : (i : ℕ) (c : Cell) → slice_get cells i ≡ Some c →
       InCell (λ b. None) (word (start_memory image) (address + 4 * i)) c
 
--- an image in which the code of a program stands, and which has its interfaces
-pub record IsLinked (program : TacTree) (image : ImageParts) (turn_pays : ℕ) (addresses : ℕ → Addresses) :
-    Type 0 where
+-- An image that has the interfaces of a program, and in which the program's code and globals stand in each compartment
+-- outside of `set`. A compartment of `set` may have any code and any globals, behind the entries that the code of the
+-- others expects.
+pub record IsLinked (set : ℕ → Bool) (program : TacTree) (image : ImageParts) (turn_pays : ℕ)
+    (addresses : ℕ → Addresses) : Type 0 where
   pub formed : IsWellFormed image
   pub main : image.main ≡ program.interfaces.main
   pub comps : length image.comps ≡ length program.interfaces.comps
   -- functions
-  pub functions : (comp number : ℕ) (f : TacFnTree) → slice_get (functions_in program comp) number ≡ Some f →
-      HasCode image (addresses comp) turn_pays comp number f
+  pub functions : (comp number : ℕ) (f : TacFnTree) → set comp ≡ false →
+      slice_get (functions_in program comp) number ≡ Some f → HasCode image (addresses comp) turn_pays comp number f
   pub function_at : (comp number : ℕ) → number < length (functions_in program comp) →
       IsCodeAddress ((addresses comp).function number)
-  pub main_at : (number : ℕ) →
+  pub main_at : (number : ℕ) → set program.interfaces.main ≡ false →
       function_entered Main (slice_get program.sections program.interfaces.main) ≡ Some number →
       image.entry ≡ (addresses program.interfaces.main).function number
   -- entries
-  pub entries : (from to index number : ℕ) →
+  pub entries : (from to index number : ℕ) → set to ≡ false →
       function_entered (Export index) (slice_get program.sections to) ≡ Some number →
       EntersBy image to ((addresses from).entry to index) ((addresses to).function number)
   pub entry_at : (from to index : ℕ) (proto : Proto) → export_at program.interfaces to index ≡ Some proto →
@@ -121,10 +123,10 @@ pub record IsLinked (program : TacTree) (image : ImageParts) (turn_pays : ℕ) (
   pub inputs : (comp : ℕ) → imports program.interfaces comp is_input ≡ true → may_input image comp ≡ true
   pub outputs : (comp : ℕ) → imports program.interfaces comp is_output ≡ true → may_output image comp ≡ true
   -- globals
-  pub globals : (comp number : ℕ) (cells : List Cell) →
+  pub globals : (comp number : ℕ) (cells : List Cell) → set comp ≡ false →
       cells_at (code_globals program.sections comp) number ≡ Ok cells →
       GlobalStands image comp ((addresses comp).global number) cells
-  pub globals_apart : (comp number other : ℕ) (cells more : List Cell) → number ≢ other →
+  pub globals_apart : (comp number other : ℕ) (cells more : List Cell) → set comp ≡ false → number ≢ other →
       cells_at (code_globals program.sections comp) number ≡ Ok cells →
       cells_at (code_globals program.sections comp) other ≡ Ok more →
       ((addresses comp).global number + 4 * length cells ≤ (addresses comp).global other)

@@ -2,6 +2,7 @@
 pub use Rattle.sc_emit_run_laws.specs.Bodies.{BodiesFollow, Departs, HasEmitted, IsRun, IsUnknown, PerformersDo}
 pub use Rattle.sc_emit_run_laws.specs.Bodies.{PerformersFollow, UnknownComes, UnknownGives, calls_of, departing}
 pub use Rattle.sc_emit_run_laws.specs.Bodies.{entered_by, ran}
+pub use Rattle.sc_emit_run_laws.specs.Given.{StandsButFor}
 pub use Rattle.sc_emit_run_laws.specs.Linked.{EntersBy, GlobalStands, HasCode, IsLinked, functions_in}
 pub use Rattle.sc_emit_run_laws.specs.Linked.{functions_or_none, gives, gives_result, makes, promises_result, setting}
 pub use Rattle.sc_emit_run_laws.specs.Moments.{ExceedsStack, Moment}

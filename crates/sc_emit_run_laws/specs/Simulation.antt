@@ -11,27 +11,27 @@ use Rattle.sc_emit_run_laws.specs.Runs.{KeepsTo}
 abbrev pub nobody : Roles
 nobody = record { scripted = λ comp. false; rows = λ comp. [] }
 
--- a program and an image in which its code stands
-pub record IsBuilt (program : TacTree) (image : ImageParts) (turn_pays : ℕ) : Type 0 where
+-- a program and an image in which its code stands in each compartment outside of `set`
+pub record IsBuilt (set : ℕ → Bool) (program : TacTree) (image : ImageParts) (turn_pays : ℕ) : Type 0 where
   pub rules : IsProgram program
   pub functions : (comp number : ℕ) (f : TacFnTree) → slice_get (functions_in program comp) number ≡ Some f →
       IsFunction f
   pub results : (roles : Roles) → GivesResults program roles
   pub addresses : ℕ → Addresses
-  pub linked : IsLinked program image turn_pays addresses
+  pub linked : IsLinked set program image turn_pays addresses
 
 -- from the start the machine runs beside the code in which every operation gives a word, and takes no more steps than
 -- its turns, and the start, pay for
 abbrev pub Simulates : Type 0
-Simulates = (program : TacTree) (image : ImageParts) (turn_pays : ℕ) → IsBuilt program image turn_pays →
-    (inputs : List ℕ) (turns : ℕ) → All IsWord inputs →
+Simulates = (program : TacTree) (image : ImageParts) (turn_pays : ℕ) →
+    IsBuilt nobody.scripted program image turn_pays → (inputs : List ℕ) (turns : ℕ) → All IsWord inputs →
     Outcome image inputs (turn_pays * suc turns) turns (code_run wrapping program inputs turns)
 
--- where a set performs its part of the machine's trace, whatever its code does, the run of all other code keeps to that
--- trace, with as many turns as the machine may take steps
+-- where a set performs its part of the machine's trace, whatever code the image has for its compartments, the run of all
+-- other code keeps to that trace, with as many turns as the machine may take steps
 abbrev pub ScriptsSimulate : Type 0
-ScriptsSimulate = (program : TacTree) (image : ImageParts) (turn_pays : ℕ) → IsBuilt program image turn_pays →
-    (inputs : List ℕ) (steps events : ℕ) (set : ℕ → Bool) → All IsWord inputs →
+ScriptsSimulate = (program : TacTree) (image : ImageParts) (turn_pays : ℕ) (set : ℕ → Bool) →
+    IsBuilt set program image turn_pays → (inputs : List ℕ) (steps events : ℕ) → All IsWord inputs →
     let observed = (machine image inputs steps events).state.trace in
     legal program.interfaces observed ≡ true →
     KeepsTo observed (scripted_code_run wrapping program inputs steps set observed).behaviour

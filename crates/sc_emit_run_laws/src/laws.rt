@@ -1,6 +1,6 @@
 // The laws, each the contract of a function with nothing to do.
 
-ghost use Rattle.sc_emit_run_laws.specs.Prelude.{OutcomesSimulate, ScriptsSimulate, Simulates};
+ghost use Rattle.sc_emit_run_laws.specs.Prelude.{OutcomesSimulate, ScriptsSimulate, Simulates, StandsButFor};
 
 /// From its start, the machine on an image in which the code of a program stands emits what a run of that code emits,
 /// unless a stack is full; and it takes no more steps than the turns pay for.
@@ -18,4 +18,10 @@ pub fn outcomes_simulate()
 /// code emits all of that trace, or is blamed before, with as many turns as the machine may take steps.
 pub fn scripts_simulate()
     ensures { ScriptsSimulate }
+{}
+
+/// Code that stands in an image also stands in each image that differs from it in given compartments only, outside of
+/// any set that includes these.
+pub fn stands_but_for()
+    ensures { StandsButFor }
 {}

@@ -3,4 +3,4 @@
 
 mod laws;
 
-pub use laws::{outcomes_simulate, scripts_simulate, simulates};
+pub use laws::{outcomes_simulate, scripts_simulate, simulates, stands_but_for};

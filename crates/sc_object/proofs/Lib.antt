@@ -4,6 +4,7 @@ pub mod Cuts
 mod Faults
 pub mod Fields
 mod Found
+pub mod Given
 mod Joining
 mod Keeping
 mod Linked

@@ -5,5 +5,6 @@ pub mod Reading
 pub mod WellFormed
 pub mod RoundTrip
 pub mod Joining
+pub mod Given
 pub mod Linking
 pub mod Laws

@@ -9,7 +9,8 @@ pub use Rattle.sc_object.specs.Rules.{face_keeps, faces_keep, is_offered, is_sta
 pub use Rattle.sc_object.specs.WellFormed.{AreObjects, IsFace, IsFaceExport, IsObject}
 pub use Rattle.sc_object.specs.Joining.{HasEntries, HasOwn, IsJoined, IsObjectOf, face_export, face_of, join_as}
 pub use Rattle.sc_object.specs.Joining.{joined_part, joined_parts, object_for, object_of, with_entries}
+pub use Rattle.sc_object.specs.Given.{AreObjectsButFor, IsObjectButFor, JoinsButFor}
 pub use Rattle.sc_object.specs.Laws.{AreObjectsOf, LinkIsCompile, ObjectsAreSeparate}
 pub use Rattle.sc_object.specs.Linking.{CanBeJoined, IsJoinFault, NamesFace, differ_from, face_for, has_number}
-pub use Rattle.sc_object.specs.Linking.{is_same_export, is_same_face, is_same_flag, is_same_program, join_fault}
+pub use Rattle.sc_object.specs.Linking.{is_same_export, is_same_face, is_same_program, join_fault}
 pub use Rattle.sc_object.specs.Linking.{missing_from, twice_from}

@@ -1,6 +1,7 @@
 // The laws, each the contract of a function with nothing to do.
 
-ghost use Rattle.sc_object.specs.Prelude.{BytesNameOneList, LinkIsCompile, ObjectIsReadAgain, ObjectsAreSeparate};
+ghost use Rattle.sc_object.specs.Prelude.{BytesNameOneList, JoinsButFor, LinkIsCompile, ObjectIsReadAgain};
+ghost use Rattle.sc_object.specs.Prelude.{ObjectsAreSeparate};
 ghost use Rattle.sc_object.specs.Prelude.{ObjectsOrBad, OneFirstBad};
 
 /// What is written of an object is read as that object, whatever follows.
@@ -31,4 +32,9 @@ pub fn link_is_compile()
 /// Two programs with the same interfaces and the same section of a number have the same object of it.
 pub fn objects_are_separate()
     ensures { ObjectsAreSeparate }
+{}
+
+/// Objects of which some are given, with any code, are joined to the program's image but for their compartments.
+pub fn joins_but_for()
+    ensures { JoinsButFor }
 {}

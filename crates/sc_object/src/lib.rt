@@ -15,8 +15,8 @@ mod writing;
 pub use compiling::object;
 pub use fault::{BadObject, ObjectsFault};
 pub use laws::{
-    bytes_name_one_list, link_is_compile, object_is_read_again, objects_are_separate,
-    objects_or_bad, one_first_bad,
+    bytes_name_one_list, joins_but_for, link_is_compile, object_is_read_again,
+    objects_are_separate, objects_or_bad, one_first_bad,
 };
 pub use linking::{JoinFault, link_objects};
 pub use objects::{Object, Objects};
