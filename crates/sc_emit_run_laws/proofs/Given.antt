@@ -19,7 +19,8 @@ use Rattle.sc_store.proofs.Words.{load_of-same}
 use Rattle.sc_store.specs.Prelude.{is_in}
 use Rattle.sc_store.specs.declared.region.Region.{Region}
 unfoldable use Rattle.sc_emit_hart.specs.Words.{word}
-use Rattle.sc_emit_run_laws.specs.Prelude.{GlobalStands, StandsButFor, seen_of}
+use Rattle.sc_image.specs.Prelude.{seen_of}
+use Rattle.sc_emit_run_laws.specs.Prelude.{GlobalStands, StandsButFor}
 
 outside_of : (a b : Bool) → (a ≡ true → b ≡ true) → b ≡ false → a ≡ false
 outside_of false b within out = refl
