@@ -1,6 +1,7 @@
 -- The machine's trace on the image of a program, as the chain of texts needs it.
 use Rattle.sc_chain.proofs.Common.{Accepts, All, All-map, CompSet, EmitsOrIsBlamed, Event, ImageParts, IsAccountOf}
-use Rattle.sc_chain.proofs.Common.{IsCompiled, IsExplained, IsRobust, IsSource, IsWord, List, MachineRun, Ok}
+use Rattle.sc_chain.proofs.Common.{IsChainWith, IsCompiled, IsExplained, IsRobust, IsSource, IsWord, Link, List}
+use Rattle.sc_chain.proofs.Common.{MachineRun, Ok, Stop, recomposed}
 use Rattle.sc_chain.proofs.Common.{ProgramTree, SourceParts, [], ap, get_or, image_of, is_listed, legal, length}
 use Rattle.sc_chain.proofs.Common.{machine, map, refl, scripted_meaning, subst, suc, sym, true, word_of, ℕ, ℤ, ◌<◌}
 use Rattle.sc_chain.proofs.Common.{◌∷◌, ◌≡◌}
@@ -43,6 +44,21 @@ module _ (source : SourceParts) (inputs : List ℤ) (steps events : ℕ) (image 
         subst (λ t. EmitsOrIsBlamed (length source.program.sections) set t
         (scripted_meaning source.program set t (map word_of inputs) steps (length t))) (sym emits)
         (robust.scripted (map word_of inputs) steps events set larger (inputs_are_words inputs))
+
+  pub accounted : (observed trace : List Event) → trace ≡ observed → observed ≡ run.state.trace → (stop : Stop) →
+      stop ≡ run.stop → (comps : List ℕ) → comps ≡ given → (links : List Link) →
+      IsChainWith source (map word_of inputs) steps trace comps links →
+      (length source.bytes ≤ 1048576 → (set : CompSet) → length (recomposed source observed set) ≤ 8388608) →
+      IsAccountOf source image given (map word_of inputs) steps events
+      (record { trace = observed; stop = stop; given = given; links = links })
+  accounted observed trace same_trace emits stop stops comps same_comps links chain short = record {
+    trace = emits;
+    stop = stops;
+    given = refl;
+    chain = subst (λ t. IsChainWith source (map word_of inputs) steps t given links) same_trace
+        (subst (λ cs. IsChainWith source (map word_of inputs) steps trace cs links) same_comps chain);
+    short = short;
+  }
 
 -- the account of a run of the program's own image
 pub own_explained : (source : SourceParts) (inputs : List ℕ) (steps events : ℕ) (image : ImageParts) → IsSource source →

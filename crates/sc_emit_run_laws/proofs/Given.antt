@@ -1,18 +1,17 @@
 -- What an image has that is another one but for given compartments: all that the others see, and each compartment that
 -- is not given.
 use Rattle.sc_emit_run_laws.proofs.Common.{Addresses, Bool, Cell, CodeAt, EntersBy, Export, Fetches, HasCode}
-use Rattle.sc_emit_run_laws.proofs.Common.{ImageParts, InCell, IsLinked, List, None, Option, Placed, Some, TacFnTree}
-use Rattle.sc_emit_run_laws.proofs.Common.{TacTree, [], ap, ap₂, arith, exported_by, export_params, false, has_result}
+use Rattle.sc_emit_run_laws.proofs.Common.{ImageParts, InCell, List, None, Option, Placed, Some, TacFnTree}
+use Rattle.sc_emit_run_laws.proofs.Common.{[], ap, ap₂, arith, exported_by, export_params, false, has_result}
 use Rattle.sc_emit_run_laws.proofs.Common.{if◌then◌else◌, length, length-map, list_any, map, may_input, may_output}
 use Rattle.sc_emit_run_laws.proofs.Common.{nat_le, option_and_then, option_map, option_map_or, position, refl, slice_get}
 use Rattle.sc_emit_run_laws.proofs.Common.{slice_get-map, slice_get_within, stack_top, subst, suc, sym, true, zero, ℕ}
-use Rattle.sc_emit_run_laws.proofs.Common.{◌%◌, ◌&&◌, ◌*◌, ◌+◌, ◌-◌, ◌/◌, ◌<◌, ◌==◌, ◌∙◌, ◌∷◌, ◌≡◌, ◌≤◌}
+use Rattle.sc_emit_run_laws.proofs.Common.{◌%◌, ◌&&◌, ◌*◌, ◌+◌, ◌-◌, ◌/◌, ◌==◌, ◌∙◌, ◌∷◌, ◌≡◌, ◌≤◌}
 use Rattle.std.specs.Prelude.{nat_eq}
 use Rattle.rv_code.specs.declared.instr.Instr.{Instr}
-use Rattle.sc_fields.specs.declared.import.ImportPart.{ImportPart}
 use Rattle.sc_image.specs.declared.parts.CompPart.{CompPart}
 use Rattle.sc_image.specs.declared.parts.ExportPart.{ExportPart}
-use Rattle.sc_image.specs.Prelude.{Filled, byte_at, code_start, comp_of_data, data_end, data_regions, data_start}
+use Rattle.sc_image.specs.Prelude.{Filled, ImportPart, byte_at, code_start, comp_of_data, data_end, data_regions, data_start}
 use Rattle.sc_image.specs.Prelude.{data_with, entered_export, has_heap, imported_by, may_call_export}
 unfoldable use Rattle.sc_image.specs.Layout.{are_data, word_at}
 unfoldable use Rattle.sc_image.specs.State.{start_memory}
@@ -20,7 +19,7 @@ use Rattle.sc_store.proofs.Words.{load_of-same}
 use Rattle.sc_store.specs.Prelude.{is_in}
 use Rattle.sc_store.specs.declared.region.Region.{Region}
 unfoldable use Rattle.sc_emit_hart.specs.Words.{word}
-use Rattle.sc_image.specs.Prelude.{IsButFor, seen_of}
+use Rattle.sc_image.specs.Prelude.{seen_of}
 use Rattle.sc_emit_run_laws.specs.Prelude.{GlobalStands, StandsButFor}
 
 outside_of : (a b : Bool) → (a ≡ true → b ≡ true) → b ≡ false → a ≡ false

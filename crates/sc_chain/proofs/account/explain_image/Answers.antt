@@ -1,0 +1,3 @@
+use Rattle.sc_chain.proofs.Common.{subst}
+use Rattle.sc_chain.proofs.ChainTrace.{given_known}
+use Rattle.sc_chain.proofs.account.explain_image.Goals as goal
