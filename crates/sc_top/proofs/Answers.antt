@@ -3,6 +3,8 @@ use Rattle.sc_top.proofs.Common.{Accepts, Answers, Check, Command, Compile, Exec
 use Rattle.sc_top.proofs.Common.{Bool, HasAccount, HasAccountIn, ImageParts, IsGoodWith, accounted_intake, false}
 use Rattle.sc_top.proofs.Common.{is_listed, limit_in, true}
 use Rattle.sc_top.specs.Answer.{IsGoodIn, IsLonger}
+use Rattle.sc_top.specs.Failure.{IsInputCause, status_of}
+use Rattle.sc_top.proofs.Common.{IsOutputCause}
 use Rattle.sc_top.proofs.Common.{IsAnswer, IsBadAt, IsErrOf, IsGood, IsGoodText, IsImage, IsInput}
 use Rattle.sc_top.proofs.Common.{IsObjectOutput, IsOutput, IsPolicyRead, IsTextOutput, IsUndisturbed, IsWhole, IsWithin}
 use Rattle.sc_top.proofs.Common.{IsWithinLimit, Judge, List, Make, Meaning, None, Object, Option, PolicyRead}
@@ -27,6 +29,43 @@ use Rattle.sc_top.proofs.Outputs.{asks_none}
 pub no_command_by : {A : Type 0} (r : Result A Failure) → IsErrOf r failure.Usage ⊎ IsErrOf r failure.OutOfMemory →
     (status_by r ≡ status.Usage) ⊎ (status_by r ≡ status.OutOfMemory)
 no_command_by r h = ⊎_elim (λ e. inl (ap status_by e)) (λ e. inr (ap status_by e)) h
+
+-- What a failure says.
+
+-- where the input wasn't read whole
+pub read_says : (c : Command) (t : Traffic) (f : Failure) →
+    IsInputCause (limit_of c) t.left t.left_after t.read_faults t.read_faults_after f → Says c t (status_of f)
+read_says c t failure.Usage why = why
+read_says c t (failure.Refused refusal) why = absurd why
+read_says c t (failure.TooLarge fault) why = absurd why
+read_says c t (failure.TooLong most) why = inl why
+read_says c t (failure.BadImage cause) why = absurd why
+read_says c t failure.ReadFault why = why
+read_says c t failure.WriteFault why = absurd why
+read_says c t failure.OutOfMemory why = tt
+read_says c t (failure.BadObject index cause) why = absurd why
+read_says c t (failure.BadJoin fault) why = absurd why
+read_says c t (failure.NoSection name) why = absurd why
+read_says c t (failure.BadPolicy line) why = absurd why
+read_says c t failure.Differs why = absurd why
+
+-- where there is no output for it
+pub output_says : (c : Command) (t : Traffic) (bytes : List ℕ) (f : Failure) →
+    IsInput (limit_of c) t.left t.left_after bytes → IsOutputCause c bytes f → Says c t (status_of f)
+output_says c t bytes failure.Usage input why = why
+output_says c t bytes (failure.Refused refusal) input why = record { bytes = bytes; input = input; holds = why }
+output_says c t bytes (failure.TooLarge fault) input why = record { bytes = bytes; input = input; holds = why }
+output_says c t bytes (failure.TooLong most) input why = inr (record { bytes = bytes; input = input; holds = why })
+output_says c t bytes (failure.BadImage cause) input why = record { bytes = bytes; input = input; holds = why }
+output_says c t bytes failure.ReadFault input why = absurd why
+output_says c t bytes failure.WriteFault input why = absurd why
+output_says c t bytes failure.OutOfMemory input why = tt
+output_says c t bytes (failure.BadObject index cause) input why =
+    record { bytes = bytes; input = input; holds = why }
+output_says c t bytes (failure.BadJoin fault) input why = record { bytes = bytes; input = input; holds = why }
+output_says c t bytes (failure.NoSection name) input why = record { bytes = bytes; input = input; holds = why }
+output_says c t bytes (failure.BadPolicy line) input why = record { bytes = bytes; input = input; holds = why }
+output_says c t bytes failure.Differs input why = record { bytes = bytes; input = input; holds = why }
 
 -- The one answer.
 

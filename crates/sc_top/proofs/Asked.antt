@@ -1,6 +1,6 @@
 -- What is asked of `explain`, `judge`, `make` and `tags` is bounded.
 use Rattle.sc_top.proofs.Common.{All, Bool, Check, Command, Compile, Exec, Explain, IsBounded, IsInput, IsWithinLimit}
-use Rattle.sc_top.proofs.Common.{Judge}
+use Rattle.sc_top.proofs.Common.{Judge, accounted_intake, length, limit_in}
 use Rattle.sc_top.proofs.Common.{List, Object, [], ◌+◌, ◌∷◌}
 use Rattle.sc_top.proofs.Common.{Make, MakeOptions, Meaning, None, Option, Run, RunOptions, Some, arith, false}
 use Rattle.sc_top.proofs.Common.{if◌then◌else◌, leb-true, nat_le, none-some, option_and_then, option_map, refl, subst}
@@ -185,3 +185,8 @@ pub input_within : (limit : Option ℕ) (left left_after : Option (List ℕ)) (b
     IsInput limit left left_after bytes → IsWithinLimit limit bytes
 input_within None left left_after bytes input = tt
 input_within (Some limit) left left_after bytes input = input.within
+
+-- where no image is asked for the bytes of a run that is accounted for are short
+pub short_text : (image : Bool) (bytes : List ℕ) → IsWithinLimit (limit_in (accounted_intake image)) bytes →
+    image ≡ false → length bytes ≤ 1048576
+short_text image bytes within no = subst (λ b. IsWithinLimit (limit_in (accounted_intake b)) bytes) no within

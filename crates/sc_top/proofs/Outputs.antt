@@ -7,6 +7,7 @@ use Rattle.sc_top.proofs.Common.{IsReading, IsUnfit, PolicyRead, accounted_intak
 use Rattle.sc_top.proofs.Common.{◌≤◌}
 use Rattle.sc_top.specs.Answer.{HasBadJoinIn, HasBadLineIn, HasBadObjectIn}
 use Rattle.sc_top.specs.Command.{AfterPolicy, ImageAndText, Intake, Text}
+use Rattle.sc_top.specs.Large.{large_in}
 use Rattle.sc_top.specs.declared.status.BadJoin as join
 use Rattle.sc_top.proofs.Common.{refl, subst, sym, true, ℕ, ◌∙◌, ◌≡◌, HasSection, IsLinked, IsObjectOutput, None}
 use Rattle.sc_top.proofs.Common.{Option, Some, ap₂, comp_named, none-some, section_of}
@@ -108,6 +109,32 @@ reading_cause limit command bytes (failure.BadJoin fault) why = absurd why
 reading_cause limit command bytes (failure.NoSection name) why = absurd why
 reading_cause limit command bytes (failure.BadPolicy line) why = absurd why
 reading_cause limit command bytes failure.Differs why = absurd why
+
+-- one whose program isn't compiled, where it is all the bytes
+pub text_cause : (limit : ℕ) (command : Command) (bytes : List ℕ) (program : ProgramTree) (f : Failure) →
+    Accepts bytes program → section_of command ≡ None → IsTrue (compiles command) → IsCompiling program f →
+    IsCauseIn (Text limit) command bytes f
+text_cause limit command bytes program f accepted plain compiled why =
+    unfit_cause (Text limit) command bytes bytes program f (λ Q q. q) accepted (asks_none command plain program) compiled
+    why
+
+-- why a program isn't compiled is why no image is explained by it
+pub compiling_another : (program other : ProgramTree) (image : ImageParts) (f : Failure) → program ≡ other →
+    IsCompiling program f → IsAnotherCompiling other image f
+compiling_another program other image failure.Usage same why = why
+compiling_another program other image (failure.Refused refusal) same why = absurd why
+compiling_another program other image (failure.TooLarge fault) same why =
+    subst (λ p. large_in p ≡ Some fault) same why
+compiling_another program other image (failure.TooLong most) same why = absurd why
+compiling_another program other image (failure.BadImage cause) same why = absurd why
+compiling_another program other image failure.ReadFault same why = why
+compiling_another program other image failure.WriteFault same why = why
+compiling_another program other image failure.OutOfMemory same why = tt
+compiling_another program other image (failure.BadObject index cause) same why = absurd why
+compiling_another program other image (failure.BadJoin fault) same why = absurd why
+compiling_another program other image (failure.NoSection name) same why = absurd why
+compiling_another program other image (failure.BadPolicy line) same why = absurd why
+compiling_another program other image failure.Differs same why = absurd why
 
 -- one that isn't read after an image
 pub limited_cause : (limit within : ℕ) (command : Command) (bytes : List ℕ) (front : BeginWithImage bytes)

@@ -80,6 +80,8 @@ fn image_accounted(alloc: Global, options: &RunOptions, bytes: &[u8]) -> Result<
         IsCauseIn (accounted_intake true) c bytes.now failure) }
 {
     let (image, place) = read_image_part(alloc, bytes)?;
+    // Every image is well formed.
+    let _parts = image.parts();
     let source = read_limited(alloc, &bytes[place..])?;
     let explanation = image_explained(alloc, options, &source, image)?;
     Ok(Account {

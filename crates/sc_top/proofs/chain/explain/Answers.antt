@@ -1,24 +1,15 @@
-use Rattle.sc_top.proofs.Common.{Explain, map, refl, rules, word_of}
-use Rattle.sc_top.proofs.Outputs.{compiled_cause}
-use Rattle.sc_top.proofs.Chains.{explained_perform, has_explanation}
+use Rattle.sc_top.proofs.Common.{Explain, account, ap₂, refl, rules, sym, ◌∙◌}
 use Rattle.sc_top.proofs.chain.explain.Goals as goal
 
-pub account-requires-clause-performing : goal.account-requires-clause-performing
-account-requires-clause-performing c =
-    explained_perform c.in_ok-source.source (map word_of c.args.options.now.inputs) c.args.options.now.steps
-    c.args.options.now.events c.in_ok-explanation.explanation c.in_ok-explanation.ensures.explained
-
-pub returns-in_err-explanation-clause-cause : goal.returns-in_err-explanation-clause-cause
-returns-in_err-explanation-clause-cause c =
-    let cause = compiled_cause (Explain c.args.options.now c.args.show) c.args.bytes.now c.args.bytes.now
-    c.in_ok-source.source.program c.in_ok-source.source.program _ (λ Q q. q) refl
-    c.in_ok-source.ensures.accepted.1 refl refl c.in_err-explanation.ensures.cause in
+pub returns-in_err-found-clause-cause : goal.returns-in_err-found-clause-cause
+returns-in_err-found-clause-cause c =
+    let cause = c.in_err-found.ensures.cause (Explain c.args.options.now) refl refl in
     search (rules, cause)
 
 pub returns-clause-ok : goal.returns-clause-ok
-returns-clause-ok c = record {
-  has = has_explanation c.args.options.now c.args.bytes.now c.in_ok-source.source c.in_ok-explanation.explanation
-      c.in_ok-source.ensures.parts c.in_ok-source.ensures.accepted.0 c.in_ok-explanation.ensures.explained
-      c.requires.short;
-  written = c.in_ok-account.ensures;
-}
+returns-clause-ok c =
+    let made = c.in_ok-found.ensures.account in
+    record {
+      found = made.found;
+      written = c.in_ok-account.ensures ∙ ap₂ (account c.args.options.now.show) (sym made.source) (sym made.explanation);
+    }

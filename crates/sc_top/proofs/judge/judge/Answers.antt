@@ -1,28 +1,35 @@
-use Rattle.sc_top.proofs.Common.{Accepts, IsWellTyped, Judge, List, drop, refl, rules, subst, take_rest, ℕ, ◌∙◌}
+use Rattle.sc_top.proofs.Common.{IsAccountFor, IsCauseIn, IsWellTyped, Judge, List, accounted_intake, arith, drop, length}
+use Rattle.sc_top.proofs.Common.{length-drop, refl, rules, subst, sym, take_rest, ℕ, ◌≤◌}
 use Rattle.sc_top.proofs.Committed.{judged_by}
-use Rattle.sc_top.proofs.Outputs.{compiled_cause}
+use Rattle.sc_top.proofs.Outputs.{judged_cause}
 use Rattle.sc_top.proofs.judge.judge.Goals as goal
 
-pub returns-in_err-explanation-clause-cause : goal.returns-in_err-explanation-clause-cause
-returns-in_err-explanation-clause-cause c =
-    let source = c.in_ok-source.source in
-    let whole = take_rest c.args.bytes.now c.in_ok-read.read.rest in
-    let cause =
-    compiled_cause (Judge c.args.options.now) c.args.bytes.now (drop c.in_ok-read.read.rest c.args.bytes.now)
-    source.program source.program _
-    (λ Q q. record { read = c.in_ok-read.read; is = c.in_ok-read.ensures.read; holds = q }) refl
-    (subst (λ (text : List ℕ). Accepts text source.program) whole c.in_ok-source.ensures.accepted.1) refl refl
-    c.in_err-explanation.ensures.cause in
+pub accounted-requires-clause-short : goal.accounted-requires-clause-short
+accounted-requires-clause-short c = λ no.
+    let short = c.requires.short no in
+    let cut = length-drop c.in_ok-read.read.rest c.args.bytes.now in
+    subst (λ (rest : List ℕ). length rest ≤ 1048576) (sym (take_rest c.args.bytes.now c.in_ok-read.read.rest))
+    (omega (arith, short, cut))
+
+pub returns-in_err-found-clause-cause : goal.returns-in_err-found-clause-cause
+returns-in_err-found-clause-cause c =
+    let options = c.args.options.now in
+    let rest = take_rest c.args.bytes.now c.in_ok-read.read.rest in
+    let cause = judged_cause options.image (Judge options) c.args.bytes.now c.in_ok-read.read _
+    c.in_ok-read.ensures.read
+    (subst (λ (b : List ℕ). IsCauseIn (accounted_intake options.image) (Judge options) b _) rest
+    (c.in_err-found.ensures.cause (Judge options) refl refl)) in
     search (rules, cause)
 
 pub returns-clause-ok : goal.returns-clause-ok
 returns-clause-ok c =
-    judged_by c.first_violations.ensures.violation c.first_violations.ensures.replaced c.args.options.now
-    c.args.bytes.now c.in_ok-verdict.field-0 c.in_ok-read.read c.in_ok-source.source c.in_ok-explanation.explanation
-    c.in_ok-read.ensures.read c.in_ok-source.ensures.parts
-    (c.in_ok-source.ensures.accepted.0 ∙ take_rest c.args.bytes.now c.in_ok-read.read.rest)
-    c.in_ok-explanation.ensures.explained (subst IsWellTyped c.program.ensures.program c.tree-tree.ensures.typed)
-    c.in_ok-explanation.ensures.allowed c.requires.short c.in_ok-verdict.ensures
+    let options = c.args.options.now in
+    judged_by c.first_violations.ensures.violation c.first_violations.ensures.replaced options
+    c.args.bytes.now c.in_ok-verdict.field-0 c.in_ok-read.read c.in_ok-found.found c.in_ok-read.ensures.read
+    (subst (λ (b : List ℕ). IsAccountFor options.run options.image b c.in_ok-found.found)
+    (take_rest c.args.bytes.now c.in_ok-read.read.rest) c.in_ok-found.ensures.account)
+    (subst IsWellTyped c.program.ensures.program c.tree-tree.ensures.typed)
+    c.in_ok-found.ensures.allowed c.in_ok-verdict.ensures
 
 pub returns-in_err-verdict-clause-cause : goal.returns-in_err-verdict-clause-cause
 returns-in_err-verdict-clause-cause c = search (rules, c.from_residual-in_err-verdict.ensures)

@@ -1,6 +1,6 @@
 use Rattle.sc_top.proofs.Common.{Interfaces, IsCompiling, IsFault, IsNamed, ap, inl, of_compile_fault, subst, sym, ◌∙◌}
 use Rattle.sc_top.proofs.Large.{named_fault, why_not_compiled}
-use Rattle.sc_top.proofs.chain.explain_failure.Goals as goal
+use Rattle.sc_top.proofs.account.explain_failure.Goals as goal
 
 pub compile_failure-requires : goal.compile_failure-requires
 compile_failure-requires c =
