@@ -4,6 +4,7 @@ mod blame;
 mod check;
 mod compiled;
 mod exec;
+mod given;
 mod hostile;
 mod judge;
 mod machine;

@@ -227,7 +227,14 @@ fn account(
     let emitted = observed.trace.as_slice();
     have_words(emitted);
     source.program();
-    let links = chain(alloc, source, given.as_slice(), inputs, limits.steps, emitted)?;
+    let links = chain(
+        alloc,
+        source,
+        given.as_slice(),
+        inputs,
+        limits.steps,
+        emitted,
+    )?;
     let MachineRun { trace, stop } = observed;
     Ok(Explanation {
         trace,

@@ -325,7 +325,6 @@ module _
   bad_or_other c image text (status.BadPolicy line) h a = h
   bad_or_other c image text status.Differs h a = h
 
-
   one_of_both : (within : ℕ) (c : Command) (bytes : List ℕ) (s t : Status) → FailAsBoth within c bytes s →
       FailAsBoth within c bytes t → SameAnswer s t
   one_of_both within c bytes s t (ImageFails n is a) (ImageFails m known b) =

@@ -284,11 +284,10 @@ module _
   one_input : (with_image : Bool) (bytes : List ℕ) (image other : Option ImageParts) (text rest : List ℕ) →
       AreImageAndText with_image bytes image text → AreImageAndText with_image bytes other rest →
       (image ≡ other) × (text ≡ rest)
-  one_input true bytes image other text rest is known =
-      (
-        is.is ∙ (ap Some (one_front bytes is.front known.front).0 ∙ sym known.is),
-        is.rest ∙ (one_rest bytes is.front known.front ∙ sym known.rest),
-      )
+  one_input true bytes image other text rest is known = (
+    is.is ∙ (ap Some (one_front bytes is.front known.front).0 ∙ sym known.is),
+    is.rest ∙ (one_rest bytes is.front known.front ∙ sym known.rest),
+  )
   one_input false bytes image other text rest is known = (is.0 ∙ sym known.0, is.1 ∙ sym known.1)
 
   -- bytes have one source and one explanation

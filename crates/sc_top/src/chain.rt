@@ -27,12 +27,7 @@ pub(crate) fn explain(
     ensures cause { IfErr result (IsOutputCause (Explain options.now) bytes.now) }
 {
     let found = accounted(alloc, &options.run, options.image, bytes)?;
-    Ok(account(
-        alloc,
-        &found.source,
-        &found.explanation,
-        options.show,
-    )?)
+    Ok(account(alloc, &found.source, &found.explanation, options.show)?)
 }
 
 // The report, or the text of the chain after `show` links.
@@ -98,11 +93,7 @@ fn first_links(links: &[Link], most: u32) -> &[Link]
 }
 
 // The compartments that perform their parts of the trace: the given ones, and those of the links.
-fn performers(
-    alloc: Global,
-    given: &[CompId],
-    links: &[Link],
-) -> Result<CompIds, OutOfMemory>
+fn performers(alloc: Global, given: &[CompId], links: &[Link]) -> Result<CompIds, OutOfMemory>
     ensures { IfOk result (λ comps. comps ≡ given.now ++ map comp_of links.now) }
 {
     let mut comps = CompIds::new(alloc);

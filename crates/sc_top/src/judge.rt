@@ -28,12 +28,7 @@ pub(crate) fn judge(alloc: Global, options: &JudgeOptions, bytes: &[u8]) -> Resu
     let found = accounted(alloc, &options.run, options.image, &bytes[read.rest..])?;
     // Every program is well typed, so that each event of the trace has a compartment.
     let _tree = found.source.program().tree();
-    Ok(verdict(
-        alloc,
-        &read.policy,
-        &found.source,
-        &found.explanation,
-    )?)
+    Ok(verdict(alloc, &read.policy, &found.source, &found.explanation)?)
 }
 
 // The report, and what the policy says of the trace.
