@@ -1,7 +1,8 @@
 -- What is read from the bytes of small images, and why other bytes are none.
 use Rattle.sc_image.proofs.Common.{Compartment, Contents, Count, Err, Exports, ImageParts, ImportPart, Imports, List}
-use Rattle.sc_image.proofs.Common.{Mark, None, Ok, Some, Start, Version, Whole, [], bad, bad_part, code_at, codes, comp_name_at}
-use Rattle.sc_image.proofs.Common.{false, fields_at, globals_at, image_at, image_bytes, image_in, import_at, imports_at}
+use Rattle.sc_image.proofs.Common.{Mark, None, Ok, Some, Start, Version, Whole, [], bad, bad_part, code_at, codes}
+use Rattle.sc_image.proofs.Common.{comp_name_at, false, fields_at, globals_at, image_at, image_bytes, image_in}
+use Rattle.sc_image.proofs.Common.{import_at, imports_at}
 use Rattle.sc_image.proofs.Common.{most_globals, is_name, keeps_rules, map, nat_le, number_that, parts_at}
 use Rattle.sc_image.proofs.Common.{range_with_len, stretch, read_comp, read_exports, read_name, refl, replicate, take}
 use Rattle.sc_image.proofs.Common.{true, word_at, ℕ, ◌++◌, ◌∷◌, ◌≡◌}

@@ -2,22 +2,23 @@
 -- an image with these bytes, and what an image is written as is read as it.
 use Rattle.sc_image.proofs.Common.{All, All-from_recursion, AllPairs-from_IsDistinct, AreBytesOf, BadImage, BadOrImage}
 use Rattle.sc_image.proofs.Common.{BadOrBegins, BadPartIsBad, BeginWith, BeginWithImage, BytesBeginWithOne, Count}
-use Rattle.sc_image.proofs.Common.{PartIsWhole, Read, bad_part, bytes_in_version, drop, fields_at, image_at}
+use Rattle.sc_image.proofs.Common.{PartIsWhole, Read, Start, bytes_in_version, drop, fields_at, image_at, is_between}
+use Rattle.sc_image.proofs.Common.{number_at, number_that}
 use Rattle.sc_image.proofs.Common.{length-append, length-drop, read_comp, take, take-append-drop, take_all, take_prefix}
 use Rattle.sc_image.proofs.Common.{Bool, BytesNameOneImage, CompPart, Decides, Decides-and, Decides-by_and}
 use Rattle.sc_image.proofs.Common.{Decides-like, Decides-ltb, Decides-not, Err, ExportPart, FitsItsFields, ImageParts}
-use Rattle.sc_image.proofs.Common.{ImportPart, IsComp, IsDistinct, Mark, IsDistinct-from_AllPairs}
+use Rattle.sc_image.proofs.Common.{ImportPart, IsComp, IsDistinct, IsDistinct-from_AllPairs}
 use Rattle.sc_image.proofs.Common.{IsDistinct-from_count, IsEntry, IsEquivalence, IsImage, IsImport, IsSomeAnd}
 use Rattle.sc_image.proofs.Common.{IsWellFormed, IsWord, List, None, Ok, Option, Result, Some, Whole, WrittenIsRead, []}
-use Rattle.sc_image.proofs.Common.{all_by, and_parts, ap, append-nil, are_distinct_by, arith, bytes_decides, code_in}
+use Rattle.sc_image.proofs.Common.{all_by, ap, append-nil, are_distinct_by, arith, bytes_decides, code_in}
 use Rattle.sc_image.proofs.Common.{code_start, codes, comps_keep, cond, distinct_count-from_IsDistinct, eq-eqb}
 use Rattle.sc_image.proofs.Common.{eqb-true, exports_keep, false, false_from_ne_true, flags, get_or_from_slice_get}
 use Rattle.sc_image.proofs.Common.{image_bytes, image_in, imports_keep, is_entry, is_importable, is_same_import}
 use Rattle.sc_image.proofs.Common.{is_same_name, is_some, keeps_rules, latest_version, length, list_all, little_bytes}
-use Rattle.sc_image.proofs.Common.{lit≤, map, mark_at, most_flags, nat_lt, nat_tests, nil_from_length, not}
+use Rattle.sc_image.proofs.Common.{lit≤, map, most_flags, nat_lt, nat_tests, nil_from_length, not}
 use Rattle.sc_image.proofs.Common.{not_from_Decides, option_map_or, parts_at, parts_bytes, read_cause}
 use Rattle.sc_image.proofs.Common.{recursion_from_All, refl, same_from_decides, slice_get, slice_get_within, stretch}
-use Rattle.sc_image.proofs.Common.{subst, suc, sym, true, unsigned_Decides, version_at, word_at, zero, ℕ, ◌&&◌, ◌*◌}
+use Rattle.sc_image.proofs.Common.{subst, suc, sym, true, unsigned_Decides, word_at, zero, ℕ, ◌&&◌, ◌*◌}
 use Rattle.sc_image.proofs.Common.{◌++◌, ◌+◌, ◌-◌, ◌/◌, ◌<◌, ◌==◌, ◌^◌, ◌∙◌, ◌∷◌, ◌≡◌, ◌≤◌}
 use Rattle.sc_fields.proofs.Compartments.{FitsImport}
 use Rattle.sc_fields.proofs.Fields.{IsBytes, all_bytes, bytes_fit, bind_ok, good_ok}
@@ -368,12 +369,12 @@ pub parts_are_few : (version : ℕ) (bytes : List ℕ) (parts : ImageParts) (res
     parts_at version bytes ≡ Ok (parts, rest) → length parts.comps ≤ 32
 unfolding parts_at
 parts_are_few version bytes parts rest e =
-    let count = bind_ok {A = ℕ × List ℕ} _ _ (parts, rest) e in
-    let number = bind_ok {A = ℕ × List ℕ} _ _ count.0 count.1 in
-    let good = good_ok Count _ number.0 count.0 number.2 in
-    let main = bind_ok {A = ℕ × List ℕ} _ _ (parts, rest) count.2 in
-    let entry = bind_ok {A = ℕ × List ℕ} _ _ (parts, rest) main.2 in
-    let comps = bind_ok {A = List CompPart × List ℕ} _ _ (parts, rest) entry.2 in
+    let count = bind_ok (number_that (is_between 1 32) Count 1 bytes) _ (parts, rest) e in
+    let number = bind_ok (number_at Count 1 bytes) _ count.0 count.1 in
+    let good = good_ok Count (is_between 1 32 number.0.0) number.0 count.0 number.2 in
+    let main = bind_ok (number_that (λ c. nat_lt c count.0.0) Start 1 count.0.1) _ (parts, rest) count.2 in
+    let entry = bind_ok (number_at Start 4 main.0.1) _ (parts, rest) main.2 in
+    let comps = bind_ok (fields_at (read_comp version count.0.0) count.0.0 entry.0.1) _ (parts, rest) entry.2 in
     let within = count_within number.0.0 good.0 in
     let same = ap (λ (p : ℕ × List ℕ). p.0) good.1 in
     let many = fields_are (read_comp version count.0.0) count.0.0 entry.0.1 comps.0.0 comps.0.1 comps.1 in
@@ -439,8 +440,8 @@ begun image place bytes formed begin = ap image_at (sym (take-append-drop place 
 pub begin_with_one : BytesBeginWithOne
 begin_with_one bytes one other place end formed also begin ends =
     let same = done_same _ _ (sym (begun one place bytes formed begin) ∙ begun other end bytes also ends) in
-    let rests : length (drop place bytes) ≡ length (drop end bytes) = ap (λ (p : ImageParts × List ℕ). length p.1) same in
-    (
+    let rests : length (drop place bytes) ≡ length (drop end bytes) =
+    ap (λ (p : ImageParts × List ℕ). length p.1) same in (
       ap (λ (p : ImageParts × List ℕ). p.0) same,
       omega (arith, rests, length-drop place bytes, length-drop end bytes, begin.within, ends.within),
     )

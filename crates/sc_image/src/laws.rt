@@ -26,7 +26,6 @@ pub fn bad_or_image()
 {}
 
 /// Bytes begin with one image at most.
-#[tactic(auto, using(crate::proofs::Whole::begin_with_one))]
 pub fn one_beginning()
     ensures { BytesBeginWithOne }
 {}
@@ -37,9 +36,9 @@ pub fn bad_or_begins()
     ensures { BadOrBegins }
 {}
 
-/// Where nothing is left after an image that bytes begin with, it is the image that they are; and a cause why they begin
-/// with none is the cause why they are none.
-#[tactic(auto, using(crate::proofs::Whole::part_is_whole_each, crate::proofs::Whole::bad_part_is_bad_each))]
+/// Where bytes end with the image that they begin with, it is the image that is read of all of them. A cause why they
+/// begin with none is the cause why they are none.
+#[tactic(auto, using(crate::proofs::Whole::bad_part_is_bad_each))]
 pub fn part_is_whole()
     ensures same { PartIsWhole }
     ensures bad { BadPartIsBad }
