@@ -60,7 +60,7 @@ module _ (Fair : ℕ → Type 0) where
         (suc turns) (within (scripted_step denotations roles (run_step denotations)) (suc turns))
         (scripted_walks denotations walk
         (λ n i s at. tt) (λ i comp number runs. tt) (λ i comp number f here. tt) obedient roles (λ comp number plain is
-        n i cause line s at. fair comp number plain is) (suc turns)) tt (first_state globals inputs turns) (λ none. tt)
+        n i here cause line s at. fair comp number plain is) (suc turns)) tt (first_state globals inputs turns) (λ none. tt)
         (λ number is none. tt) (λ number f is. tt) tt)
 
   stopped_spares : (events : ℕ) (run : SourceRun) → Spares run.end → Spares (stopped_at events run).end

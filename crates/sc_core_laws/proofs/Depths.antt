@@ -308,7 +308,7 @@ module _ (base : State) where
       body_notes : (n : ℕ) → BodyWalks denotations walk n (body n)
       body_notes = scripted_walks denotations walk (λ n depths s h. h)
           (λ depths comp number runs. tt) (λ depths comp number f here. tt) obedient roles
-          (λ comp number plain is n depths cause line s h. h.emitted)
+          (λ comp number plain is n depths here cause line s h. h.emitted)
 
       -- a call from the base, and that of `main`
       abbrev at_base : Emitted base base.trace base.frames

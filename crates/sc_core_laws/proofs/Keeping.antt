@@ -282,7 +282,7 @@ module _ (denotations : Denotations) (walk : Walk denotations) where
       (owns : (i : walk.Place) (comp number : ℕ) (f : Function) → walk.In i comp →
       walk.Runs (walk.inner i comp f) comp number) (obedient : Obedient denotations) (roles : Roles)
       (blamed : (comp number : ℕ) → roles.scripted comp ≡ false → is_some (function denotations comp number) ≡ true →
-      (n : ℕ) (i : walk.Place) (cause : Cause) (line : ℕ) (s : State) → walk.At n i s →
+      (n : ℕ) (i : walk.Place) → walk.In i comp → (cause : Cause) (line : ℕ) (s : State) → walk.At n i s →
       walk.Ends (Blamed comp cause line) s) where
     stops : (n : ℕ) (i : walk.Place) (s : State) → walk.At n i s → walk.Ends TurnsOut s
     stops zero i s at = walk.halts i s at
@@ -303,7 +303,7 @@ module _ (denotations : Denotations) (walk : Walk denotations) where
           (λ target args s may at. called_walks n body walks i here.comp target args s here_at owned may at) number
           (λ s at. stops (suc n) i s at) (λ s at. raise n i _ (walks number here s i is runs (lowered n i s at))) _ s at
       by false plain = run_step_walks n body walks obedient goes number here s i is here_at owned
-          (λ cause line s at. blamed here.comp number plain is (suc n) i cause line s at) at
+          (λ cause line s at. blamed here.comp number plain is (suc n) i here_at cause line s at) at
 
     pub scripted_walks : (n : ℕ) → BodyWalks n (within (scripted_step denotations roles (run_step denotations)) n)
     scripted_walks zero number here s i is runs at = record { after = walk.halts i s at }

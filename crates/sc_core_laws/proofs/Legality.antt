@@ -113,7 +113,7 @@ module _ (denotations : Denotations) where
     run_legal roles globals inputs turns = piece_legal (suc turns) _ (main_walks denotations walk (suc turns) (within
         (scripted_step denotations roles (run_step denotations)) (suc turns))
         (scripted_walks denotations walk (λ n st s h. h) (λ st
-        comp number is. is) (λ st comp number f is. is) obedient roles (λ comp number plain is n st cause line s h.
+        comp number is. is) (λ st comp number f is. is) obedient roles (λ comp number plain is n st here cause line s h.
         (h.is_legal, tt)) (suc turns)) begins (first_state globals inputs turns) (λ none. (refl, tt)) (λ number is none.
         (refl, tt)) (λ number f is. refl) (record { stands = refl; is_legal = refl }))
 

@@ -1,4 +1,5 @@
 pub mod Common
+pub mod Active
 pub mod Agreement
 pub mod Below
 pub mod Blames

@@ -12,11 +12,13 @@ use Rattle.sc_core_laws.proofs.Matching.{run_goes_on, scripted_goes_on}
 use Rattle.sc_core_laws.proofs.Statements.{program_obeys}
 use Rattle.sc_core_laws.proofs.Runs.{has_fixed_point}
 use Rattle.sc_core_laws.proofs.More.{more_runs, more_scripted, runs_agree, scripts_agree, wrapping_matches}
+use Rattle.sc_core_laws.specs.Prelude.{BlamedStandActive}
+use Rattle.sc_core_laws.proofs.Active.{blamed_stand_active as stand_active}
 use Rattle.sc_core_laws.proofs.Legality.{runs_legal, scripts_legal}
 use Rattle.sc_core_laws.proofs.Blames.{blamed_is_there, nobody_is_blamed, chain_rises, has_chain}
 use Rattle.sc_core_laws.proofs.FollowingRuns.{emits_with_more, keeps_blames, passes_blames, least_is_chain}
 use Rattle.sc_core_laws.proofs.Depths.{keeps_depths}
-use Rattle.sc_core_laws.proofs.Scripts.{spends_along}
+use Rattle.sc_core_laws.proofs.Scripts.{spends_along, spends_outside}
 use Rattle.sc_core_laws.proofs.Turns.{spends_turns}
 
 pub programs_obey : ProgramsObey
@@ -102,6 +104,13 @@ blamed_are_there = record {
       (globals_of _) inputs turns events (roles_in _ set trace) comp cause line ends);
 }
 
+pub blamed_stand_active : BlamedStandActive
+blamed_stand_active = record {
+  any_denotations = stand_active;
+  programs = λ arith program set trace inputs turns events. stand_active (denotations_of arith program)
+      (program_obeys arith program) (globals_of _) inputs turns events (roles_in _ set trace);
+}
+
 -- what holds of denotations that obey holds of programs
 of_sets : (law : List Event → (CompSet → SourceRun) → Type 0) →
     ((denotations : Denotations) → Obedient denotations →
@@ -142,4 +151,5 @@ turns_out_means_turns = record {
   any_denotations = spends_turns;
   programs = λ arith program. spends_turns (denotations_of arith program) (program_obeys arith program);
   scripts = spends_along;
+  outside = spends_outside;
 }

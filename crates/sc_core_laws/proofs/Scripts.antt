@@ -1,5 +1,6 @@
 -- A run in which a set performs its part of a legal trace: where it is out of turns while it keeps to the trace and
--- hasn't emitted all of it, it has none left. For there the next row of the active compartment is its next event.
+-- hasn't emitted all of it, it has none left. For there the next row of the active compartment is its next event. Nor has
+-- it any left where the active compartment doesn't perform, for then it lacks no row.
 use Rattle.sc_core_laws.proofs.Common.{Action, BadType, Blamed, Body, Bool, Call, CallTarget, Cross, Denotations, End}
 use Rattle.sc_core_laws.proofs.Common.{Ended, Event, EventsOut, Export, ExportsLead, Here, In, Input, Interfaces, Kept}
 use Rattle.sc_core_laws.proofs.Common.{List, Main, Memory, None, Obedient, Option, Out, Output, Piece, Property, Ret}
@@ -13,6 +14,7 @@ use Rattle.sc_core_laws.proofs.Common.{map, may_call, may_perform, part, perform
 use Rattle.sc_core_laws.proofs.Common.{run_step, scripted_call, scripted_step, stands_after, stands_after_all, subst}
 use Rattle.sc_core_laws.proofs.Common.{suc, sym, takes, then_kept, true, within, zero, ℕ, ◌++◌, ◌<◌, ◌∙◌, ◌∷◌, ◌≡◌}
 use Rattle.sc_event.specs.declared.row.Action.TheVariants as act
+use Rattle.sc_core_laws.specs.Prelude.{IsSpentOutside, SpendsOutside}
 use Rattle.sc_core_laws.proofs.Growing.{BodyGoes, within_goes}
 use Rattle.sc_core_laws.proofs.Keeping.{Walk, place, BodyWalks, raise, cross_walks, main_walks, run_step_walks}
 use Rattle.sc_core_laws.proofs.Keeping.{led_somewhere, led_there}
@@ -34,14 +36,19 @@ pub words_are : (args : List ℕ) → list_all is_word (map (λ w. Word w) args)
 words_are [] = refl
 words_are (w ∷ args) = words_are args
 
-module _ (main : ℕ) (trace : List Event) where
-  -- where a run stops for want of turns while it keeps to the trace, with an event to come, it has none
-  abbrev Spent : RunEnd → State → Type 0
-  Spent Ended s = Unit {0}
-  Spent (Blamed comp cause line) s = Unit {0}
-  Spent TurnsOut s = (event : Event) (more : List Event) → trace ≡ s.trace ++ event ∷ more → s.turns ≡ 0
-  Spent EventsOut s = Unit {0}
+-- A run that stops for want of turns has none left while it keeps to the trace, with an event to come, and none where
+-- the active compartment doesn't perform.
+record HasSpent (main : ℕ) (trace : List Event) (set : CompSet) (s : State) : Type 0 where
+  along : (event : Event) (more : List Event) → trace ≡ s.trace ++ event ∷ more → s.turns ≡ 0
+  outside : IsSpentOutside main set s
 
+abbrev Spent : ℕ → List Event → CompSet → RunEnd → State → Type 0
+Spent main trace set Ended s = Unit {0}
+Spent main trace set (Blamed comp cause line) s = Unit {0}
+Spent main trace set TurnsOut s = HasSpent main trace set s
+Spent main trace set EventsOut s = Unit {0}
+
+module _ (main : ℕ) (trace : List Event) where
   -- fewer turns than a number are left, and the run stands here
   record Stands (n : ℕ) (st : Standing) (turns : ℕ) (emitted : List Event) : Type 0 where
     pub few : turns < n
@@ -79,14 +86,17 @@ module _ (denotations : Denotations) (leads_on : ExportsLead denotations) (trace
   walk = record {
     Place = Standing;
     At = Now;
-    Ends = Spent main trace;
+    Ends = Spent main trace set;
     In = λ st comp. comp ≡ st.active.comp;
     Runs = Runs;
     inner = λ st comp f. st;
     across = entered_at;
     cross_runs = λ st to index number f same. record { active = refl; entered = λ performing. same };
     halts = λ st s at. (let few = at.few in absurd (omega (arith, few)));
-    spent = λ n st s none at event more along. none;
+    spent = λ n st s none here. record {
+      along = λ event more along. none;
+      outside = record { at = st; stood = here.stands; spent = λ out. none };
+    };
     less = λ n m st s is at. record { few = (let few = at.few in omega (arith, is, few)); stands = at.stands };
     raised = λ n st s at. record { few = (let few = at.few in omega (arith, few)); stands = at.stands };
     stored = λ n st s memory at. at;
@@ -103,6 +113,18 @@ module _ (denotations : Denotations) (leads_on : ExportsLead denotations) (trace
 
   abbrev BodyAlong : ℕ → Body → Type 0
   BodyAlong = BodyWalks denotations walk
+
+  -- where a compartment that performs has no row for what comes next, nothing comes next
+  wants_row : (k comp : ℕ) (st : Standing) (s : State) → comp ≡ st.active.comp → set comp ≡ true → Now k st s →
+      ((event : Event) (more : List Event) → trace ≡ s.trace ++ event ∷ more → ⊥) → HasSpent main trace set s
+  wants_row k comp st s active performing here none = record {
+    along = λ event more is. absurd (none event more is);
+    outside = record {
+      at = st;
+      stood = here.stands;
+      spent = λ out. (let clash : true ≡ false = sym performing ∙ ap set active ∙ out in cc clash);
+    };
+  }
 
   module _ (n : ℕ) (body : Body) (along : BodyAlong n body) where
     -- OF COMPARTMENTS THAT PERFORM
@@ -147,6 +169,7 @@ module _ (denotations : Denotations) (leads_on : ExportsLead denotations) (trace
     module _ (row : Row) (rest : List Row) (number : ℕ) (here : Here) (s : State) (st : Standing)
         (rows : row ∷ rest ≡ rows_left roles here.comp s.trace) (active : here.comp ≡ st.active.comp)
         (is : is_some (function denotations here.comp number) ≡ true)
+        (performing : set here.comp ≡ true)
         (entered : denotations.entered here.comp st.active.entry ≡ Some number) (at : Now (suc n) st s)
         (next : (t : State) → rest ≡ rows_left roles here.comp t.trace → Now (suc n) st t →
         Kept (Kind (suc n) st) (performs denotations body rest number here t)) where
@@ -185,7 +208,11 @@ module _ (denotations : Denotations) (leads_on : ExportsLead denotations) (trace
         by : (b : Bool) → may_call denotations here.comp target args ≡ b → Kept (Kind (suc n) st) (and_then (if b then
             (if b then called denotations body here.comp target args s else Stopped (Blamed here.comp BadType 0) s) else
             Stopped TurnsOut s) k)
-        by b may = grind (arith, go, well, asked action its)
+        by true may = go may
+        by false may = record {
+          after = wants_row (suc n) here.comp st s active performing at (λ e more along_trace.
+              (let clash : false ≡ true = sym may ∙ well (asked action its e more along_trace) in cc clash));
+        }
 
       acts_along : (action : Action) → row.action ≡ action → Kept (Kind (suc n) st)
           (acts denotations body action (performs denotations body rest number here) (body number here) here.comp s)
@@ -203,20 +230,29 @@ module _ (denotations : Denotations) (leads_on : ExportsLead denotations) (trace
       acts_along (act.End w) its = record { after = at }
 
       row_along : Kept (Kind (suc n) st) (performs denotations body (row ∷ rest) number here s)
-      row_along = grind (arith, acts_along row.action refl, names)
+      row_along = by (is_number number (denotations.entered here.comp row.entry)) refl where
+        by : (b : Bool) → is_number number (denotations.entered here.comp row.entry) ≡ b → Kept (Kind (suc n) st)
+            (if b then acts denotations body row.action (performs denotations body rest number here) (body number here)
+            here.comp s else Stopped TurnsOut s)
+        by true named = acts_along row.action refl
+        by false named = record {
+          after = wants_row (suc n) here.comp st s active performing at (λ e more along_trace.
+              (let clash : false ≡ true = sym named ∙ names e more along_trace in cc clash));
+        }
 
     performs_along : (rows : List Row) (number : ℕ) (here : Here) (s : State) (st : Standing) →
         rows ≡ rows_left roles here.comp s.trace → here.comp ≡ st.active.comp →
-        is_some (function denotations here.comp number) ≡ true →
+        is_some (function denotations here.comp number) ≡ true → set here.comp ≡ true →
         denotations.entered here.comp st.active.entry ≡ Some number →
         Now (suc n) st s → Kept (Kind (suc n) st) (performs denotations body rows number here s)
-    performs_along [] number here s st rows active is entered at = record {
-      after = λ e more along_trace.
-          let following = is_next st _ s e more active at along_trace in
-          let never = rows ∙ following.row.is in absurd (cc never);
+    performs_along [] number here s st rows active is performing entered at = record {
+      after = wants_row (suc n) here.comp st s active performing at (λ e more along_trace.
+          (let following = is_next st _ s e more active at along_trace in
+          let never = rows ∙ following.row.is in cc never));
     }
-    performs_along (row ∷ rest) number here s st rows active is entered at = row_along row rest number here s st rows
-        active is entered at (λ t rows at. performs_along rest number here t st rows active is entered at)
+    performs_along (row ∷ rest) number here s st rows active is performing entered at =
+        row_along row rest number here s st rows active is performing entered at
+        (λ t rows at. performs_along rest number here t st rows active is performing entered at)
 
   module _ (obedient : Obedient denotations) where
     abbrev its_bodies : ℕ → Body
@@ -228,7 +264,7 @@ module _ (denotations : Denotations) (leads_on : ExportsLead denotations) (trace
       by : (b : Bool) → set here.comp ≡ b → Kept (Kind (suc n) st) (if b then performs denotations body
           (rows_left roles here.comp s.trace) number here s else run_step denotations body number here s)
       by true performing = performs_along n body along (rows_left roles here.comp s.trace) number here s st refl
-          runs.active is (runs.entered performing) at
+          runs.active is performing (runs.entered performing) at
       by false plain = run_step_walks denotations walk n body along obedient goes number here s st is runs.active
           (λ k f. record { active = runs.active; entered = λ performing. absurd (false≢true (sym plain ∙ performing)) })
           (λ cause line s at. tt) at
@@ -253,10 +289,26 @@ module _ (denotations : Denotations) (leads_on : ExportsLead denotations) (trace
         (λ number f same. record { active = refl; entered = λ performing. same })
         (record { few = omega arith; stands = refl })
 
+-- a run that stops for want of turns
+has_spent : (denotations : Denotations) → Obedient denotations → ExportsLead denotations →
+    leads denotations denotations.interfaces.main (denotations.entered denotations.interfaces.main Main) ≡ true →
+    (trace : List Event) → legal denotations.interfaces trace ≡ true → (set : CompSet) (globals : Memory)
+    (inputs : List ℕ) (turns : ℕ) (s : State) →
+    scripted_call denotations (roles_in denotations.interfaces.main set trace) globals inputs turns ≡ Stopped TurnsOut
+    s → HasSpent denotations.interfaces.main trace set s
+has_spent denotations obedient leads_on main_leads trace legal_trace set globals inputs turns s is =
+    let kept = main_along denotations leads_on trace legal_trace set obedient globals inputs turns main_leads in
+    (subst (λ x. Kept (Kind denotations leads_on trace legal_trace set (suc turns)
+    (first denotations leads_on trace legal_trace set obedient)) x) is kept).after
+
 pub spends_along : (denotations : Denotations) → Obedient denotations → ExportsLead denotations →
     leads denotations denotations.interfaces.main (denotations.entered denotations.interfaces.main Main) ≡ true →
     (trace : List Event) → legal denotations.interfaces trace ≡ true → SpendsAlong denotations trace
 spends_along denotations obedient leads_on main_leads trace legal_trace set globals inputs turns s is =
-    let kept = main_along denotations leads_on trace legal_trace set obedient globals inputs turns main_leads in
-    (subst (λ x. Kept (Kind denotations leads_on trace legal_trace set (suc turns)
-    (first denotations leads_on trace legal_trace set obedient)) x) is kept).after
+    (has_spent denotations obedient leads_on main_leads trace legal_trace set globals inputs turns s is).along
+
+pub spends_outside : (denotations : Denotations) → Obedient denotations → ExportsLead denotations →
+    leads denotations denotations.interfaces.main (denotations.entered denotations.interfaces.main Main) ≡ true →
+    (trace : List Event) → legal denotations.interfaces trace ≡ true → SpendsOutside denotations trace
+spends_outside denotations obedient leads_on main_leads trace legal_trace set globals inputs turns s is =
+    (has_spent denotations obedient leads_on main_leads trace legal_trace set globals inputs turns s is).outside

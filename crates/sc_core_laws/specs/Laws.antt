@@ -4,7 +4,8 @@ use Rattle.sc_core_laws.specs.Common.{ProgramTree, Reached, Roles, Run, SourceRu
 use Rattle.sc_core_laws.specs.Common.{call_own, deepest, denotations_of, legal, meaning, meaning_by, roles_in, run_of}
 use Rattle.sc_core_laws.specs.Common.{run_step, scripted_by, scripted_meaning, scripted_run_of, scripted_step}
 use Rattle.sc_core_laws.specs.Common.{scripted_wrapped, stopped_at, within, wrapped, wrapping}
-use Rattle.std.specs.Prelude.{◌≡◌, ◌⊎◌, ℕ, suc, ◌<◌, ◌≤◌, ◌++◌, true, false, List, length, Option}
+use Rattle.std.specs.Prelude.{◌≡◌, ◌⊎◌, ℕ, suc, ◌<◌, ◌≤◌, ◌++◌, true, false, List, length, Option, Some}
+use Rattle.sc_event.specs.Prelude.{Standing, at_start, stands_after_all}
 use Rattle.sc_core_laws.specs.Chains.{CompSet, IsSubset, nobody, BlameLink, IsBlamedOutside, performed, IsBlameChain}
 use Rattle.sc_core_laws.specs.Chains.{IsRising}
 use Rattle.sc_core_laws.specs.Chains.{AreFresh, HasAllBlamed, PassesBlame, count_outside}
@@ -137,6 +138,26 @@ pub record BlamedAreThere : Type 0 where
       (comp : ℕ) (cause : Cause) (line : ℕ) →
       (scripted_by arith program set trace inputs turns events).end ≡ Blamed comp cause line →
       comp < length program.sections
+
+-- A compartment stands active after a trace, from the start of a run in this main compartment.
+pub record StandsActive (main comp : ℕ) (trace : List Event) : Type 0 where
+  pub at : Standing
+  pub stood : stands_after_all (at_start main) trace ≡ Some at
+  pub active : at.active.comp ≡ comp
+
+-- the compartment that is blamed stands active after the run's events, whichever compartments perform
+pub record BlamedStandActive : Type 0 where
+  pub any_denotations : (denotations : Denotations) → Obedient denotations →
+      (globals : Memory) (inputs : List ℕ) (turns events : ℕ) (roles : Roles) →
+      (comp : ℕ) (cause : Cause) (line : ℕ) →
+      (stopped_at events (roles_run denotations globals inputs turns roles).behaviour).end ≡ Blamed comp cause line →
+      StandsActive denotations.interfaces.main comp
+      (stopped_at events (roles_run denotations globals inputs turns roles).behaviour).trace
+  pub programs : (arith : Arith) (program : ProgramTree) (set : CompSet) (trace : List Event) (inputs : List ℕ)
+      (turns events : ℕ) →
+      (comp : ℕ) (cause : Cause) (line : ℕ) →
+      (scripted_by arith program set trace inputs turns events).end ≡ Blamed comp cause line →
+      StandsActive program.interfaces.main comp (scripted_by arith program set trace inputs turns events).trace
 
 -- SETS THAT PERFORM THEIR PARTS OF A TRACE
 -- what holds of the runs in which sets perform: of all denotations that obey, and so of every program

@@ -12,6 +12,7 @@ pub use Rattle.sc_core_laws.specs.InteractionTrees.{Alike, Asks, Blames, Denotat
 pub use Rattle.sc_core_laws.specs.InteractionTrees.{GoFrom, Halts, InteractionTree, Lasts, Match, Never, Obedient}
 pub use Rattle.sc_core_laws.specs.InteractionTrees.{Plays, Reads, Spends, Stores, played}
 pub use Rattle.sc_core_laws.specs.Laws.{BlameIsPassed, BlameRemains, BlamedAreThere, ChainExists, ChainIsLeast}
+pub use Rattle.sc_core_laws.specs.Laws.{BlamedStandActive, StandsActive}
 pub use Rattle.sc_core_laws.specs.Laws.{ChainRises, ChainsRise, ChangesAreWithin, DeepestIsReached, DepthsAreKept}
 pub use Rattle.sc_core_laws.specs.Laws.{EmitsNoEnd, EmitsWithMore, EmptySetIsMeaning, FixedPoint, HasChain}
 pub use Rattle.sc_core_laws.specs.Laws.{HasFixedPoint, HoldsOfSets, IsFixed, IsSteady, KeepsBlames, KeepsDepths}
@@ -24,4 +25,4 @@ pub use Rattle.sc_core_laws.specs.Runs.{denotations_run, performed_by, roles_run
 pub use Rattle.sc_core_laws.specs.Steady.{AgreesInDepth, AgreesUntilBlame, ExtendedByMore, Extends, RunsUntilBlame}
 pub use Rattle.sc_core_laws.specs.Steady.{blamed, blamed_run, now, same, same_run}
 pub use Rattle.sc_core_laws.specs.Turns.{ExportsLead, SpendsAlong, SpendsTurns, StopsSpent, TurnsOutMeansTurns}
-pub use Rattle.sc_core_laws.specs.Turns.{main_call, scripted_call}
+pub use Rattle.sc_core_laws.specs.Turns.{IsSpentOutside, SpendsOutside, main_call, scripted_call}

@@ -2,7 +2,8 @@
 use Rattle.sc_core_laws.specs.Common.{Arith, Denotations, Event, Here, Memory, Piece, ProgramTree, Roles, State}
 use Rattle.sc_core_laws.specs.Common.{Stopped, TurnsOut, Value, and_then, call_own, denotations_of, first_state, found}
 use Rattle.sc_core_laws.specs.Common.{function, leads, legal, roles_in, run_step, scripted_step, takes, within}
-use Rattle.std.specs.Prelude.{◌≡◌, ℕ, suc, ◌++◌, true, List, [], ◌∷◌, Option, is_some}
+use Rattle.std.specs.Prelude.{◌≡◌, ℕ, suc, ◌++◌, true, false, List, [], ◌∷◌, Option, Some, is_some}
+use Rattle.sc_event.specs.Prelude.{Standing, at_start, stands_after_all}
 use Rattle.sc_event.specs.declared.row.Entry.TheVariants.{Export, Main}
 use Rattle.sc_core_laws.specs.Chains.{CompSet}
 use Rattle.sc_core_laws.specs.InteractionTrees.{Obedient}
@@ -55,9 +56,25 @@ SpendsAlong denotations trace = (set : CompSet) (globals : Memory) (inputs : Lis
     s →
     (event : Event) (more : List Event) → trace ≡ s.trace ++ event ∷ more → s.turns ≡ 0
 
+-- No turn is left in a state, where the compartment that stands active after its events doesn't perform.
+pub record IsSpentOutside (main : ℕ) (set : CompSet) (s : State) : Type 0 where
+  pub at : Standing
+  pub stood : stands_after_all (at_start main) s.trace ≡ Some at
+  pub spent : set at.active.comp ≡ false → s.turns ≡ 0
+
+-- Where sets perform their parts of a trace, a run that is out of turns has no turn left if the compartment that stands
+-- active doesn't perform: only compartments that perform can lack a row.
+abbrev pub SpendsOutside : Denotations → List Event → Type 0
+SpendsOutside denotations trace = (set : CompSet) (globals : Memory) (inputs : List ℕ) (turns : ℕ) (s : State) →
+    scripted_call denotations (roles_in denotations.interfaces.main set trace) globals inputs turns ≡ Stopped TurnsOut
+    s → IsSpentOutside denotations.interfaces.main set s
+
 pub record TurnsOutMeansTurns : Type 0 where
   pub any_denotations : (denotations : Denotations) → Obedient denotations → SpendsTurns denotations
   pub programs : (arith : Arith) (program : ProgramTree) → SpendsTurns (denotations_of arith program)
   pub scripts : (denotations : Denotations) → Obedient denotations → ExportsLead denotations →
       leads denotations denotations.interfaces.main (denotations.entered denotations.interfaces.main Main) ≡ true →
       (trace : List Event) → legal denotations.interfaces trace ≡ true → SpendsAlong denotations trace
+  pub outside : (denotations : Denotations) → Obedient denotations → ExportsLead denotations →
+      leads denotations denotations.interfaces.main (denotations.entered denotations.interfaces.main Main) ≡ true →
+      (trace : List Event) → legal denotations.interfaces trace ≡ true → SpendsOutside denotations trace

@@ -1,6 +1,7 @@
 // Laws of the meaning, each the contract of a function with nothing to do.
 
 ghost use Rattle.sc_core_laws.specs.Prelude.{AgreeingRunAlike, BlameIsPassed, BlameRemains, BlamedAreThere};
+ghost use Rattle.sc_core_laws.specs.Prelude.{BlamedStandActive};
 ghost use Rattle.sc_core_laws.specs.Prelude.{ChainExists, ChainIsLeast, ChainsRise, DeepestIsReached, DepthsAreKept};
 ghost use Rattle.sc_core_laws.specs.Prelude.{EmptySetIsMeaning, FixedPoint, MeaningGoesOn, MoreGoesOn, MoreMayPerform};
 ghost use Rattle.sc_core_laws.specs.Prelude.{NobodyWhoPerformsIsBlamed, OnlyGoesOn, OtherLinesAgree, ProgramsObey};
@@ -87,6 +88,12 @@ pub fn blamed_are_there()
     ensures { BlamedAreThere }
 {}
 
+/// The compartment that a run blames is the one that stands active after the run's events, whichever compartments
+/// perform.
+pub fn blamed_stand_active()
+    ensures { BlamedStandActive }
+{}
+
 /// The blames of a chain come after ever more events of the trace, all before its end, and their compartments differ.
 pub fn chains_rise()
     ensures { ChainsRise }
@@ -109,7 +116,8 @@ pub fn depths_are_kept()
     ensures { DepthsAreKept }
 {}
 
-/// A run that ends for want of turns has none left, where `main` is there.
+/// A run that ends for want of turns has none left, where `main` is there. Where compartments perform their parts of a
+/// trace, this holds while an event of the trace is to come, and where the active compartment doesn't perform.
 pub fn turns_out_means_turns()
     ensures { TurnsOutMeansTurns }
 {}
