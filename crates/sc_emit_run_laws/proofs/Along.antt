@@ -7,9 +7,10 @@ use Rattle.sc_emit_run_laws.proofs.Common.{prefix_long, prefix_more, prefix_same
 use Rattle.sc_emit_run_laws.proofs.Common.{run_stopped, run_traps, slice_get, step, stopped, subst, suc, suc-add, sym}
 use Rattle.sc_emit_run_laws.proofs.Common.{take, take_all, take_prefix as take_exactly, take_prefixes, then_on, true}
 use Rattle.sc_emit_run_laws.proofs.Common.{walk, walk_adds, zero, zero-add, ℕ, ◌++◌, ◌+◌, ◌-◌, ◌<◌, ◌||◌, ◌∙◌, ◌∷◌, ◌≡◌}
-use Rattle.sc_emit_run_laws.proofs.Common.{◌≤◌}
+use Rattle.sc_emit_run_laws.proofs.Common.{if◌then◌else◌, inl, inr, same_Some, ⊎_elim, ◌≤◌, ◌⊎◌}
 use Rattle.sc_image.specs.Prelude.{MachineState, is_end as ends}
-use Rattle.sc_base.specs.declared.stop.Stop.TheVariants.{EventsOut}
+use Rattle.sc_base.specs.declared.stop.Stop.TheVariants.{Ended, EventsOut}
+use Rattle.sc_emit_run_laws.specs.Prelude.{IsTrap}
 
 -- LISTS
 
@@ -56,6 +57,17 @@ prefix_endless xs ys prefix h = fewer xs (subst (λ zs. has_no_end zs ≡ true) 
     by true later h = h
     by false later h = later h
 
+-- STOPS
+
+-- the length of a trace stops no run by a trap
+no_trap : (events : ℕ) (trace : List Event) (stop : Stop) → stopped events trace ≡ Some stop → IsTrap stop → ⊥
+unfolding stopped
+no_trap events trace stop is traps = by (is_ended trace) (nat_le events (length trace)) is where
+  by : (ended full : Bool) → (if ended then Some Ended else if full then Some EventsOut else None) ≡ Some stop → ⊥
+  by true full is = (let same : Ended ≡ stop = same_Some Ended stop is in subst IsTrap (sym same) traps)
+  by false true is = (let same : EventsOut ≡ stop = same_Some EventsOut stop is in subst IsTrap (sym same) traps)
+  by false false is = cc is
+
 -- STEPS
 
 module _ (image : ImageParts) (inputs : List ℕ) (formed : IsWellFormed image) where
@@ -73,6 +85,15 @@ module _ (image : ImageParts) (inputs : List ℕ) (formed : IsWellFormed image) 
       by None is = ap (λ r. r.state) (run_out image inputs events state is)
       by (Some stop) is = ap (λ r. r.state) (run_stopped image inputs events 0 state stop is)
 
+    -- one that takes no step
+    no_step_traps : (state : MachineState) → IsTrap (run image inputs events 0 state).stop → ⊥
+    no_step_traps state = by (stopped events state.trace) refl where
+      by : (o : Option Stop) → stopped events state.trace ≡ o → IsTrap (run image inputs events 0 state).stop → ⊥
+      by None is traps = subst (λ r. IsTrap r.stop) (run_out image inputs events state is) traps
+      by (Some stop) is traps =
+          no_trap events state.trace stop is
+          (subst (λ r. IsTrap r.stop) (run_stopped image inputs events 0 state stop is) traps)
+
     full_stops : (trace : List Event) → is_ended trace ≡ false → events ≤ length trace →
         stopped events trace ≡ Some EventsOut
     unfolding stopped
@@ -84,6 +105,12 @@ module _ (image : ImageParts) (inputs : List ℕ) (formed : IsWellFormed image) 
     at_full n state going le =
         ap (λ r. r.state) (run_stopped image inputs events n state EventsOut (full_stops state.trace going le))
 
+    full_traps : (n : ℕ) (state : MachineState) → is_ended state.trace ≡ false → events ≤ length state.trace →
+        IsTrap (run image inputs events n state).stop → ⊥
+    full_traps n state going le traps =
+        subst (λ r. IsTrap r.stop) (run_stopped image inputs events n state EventsOut (full_stops state.trace going le))
+        traps
+
     module _ (to : MachineState) (going : has_no_end to.trace ≡ true) where
       -- what a run of this many steps, and more or fewer, emits of a stretch from this state
       pub record Along (n : ℕ) (from : MachineState) : Type 0 where
@@ -92,6 +119,9 @@ module _ (image : ImageParts) (inputs : List ℕ) (formed : IsWellFormed image) 
             (run image inputs events m from).state.trace ≡ take events to.trace
         pub further : (k : ℕ) → length to.trace < events →
             run image inputs events (n + k) from ≡ run image inputs events k to
+        -- no trap stops it on the stretch, nor one that may emit no more than the stretch
+        pub trapless : (m : ℕ) → (m ≤ n) ⊎ (events ≤ length to.trace) → IsTrap (run image inputs events m from).stop →
+            ⊥
 
       before : (from : MachineState) → IsPrefix from.trace to.trace → is_ended from.trace ≡ false
       before from prefix = not_over from.trace (prefix_endless from.trace to.trace prefix going)
@@ -104,6 +134,9 @@ module _ (image : ImageParts) (inputs : List ℕ) (formed : IsWellFormed image) 
         full = λ m le full. ap (λ s. s.trace) (at_full m to (not_over to.trace going) full) ∙
             sym (take_prefix events to.trace to.trace (prefix_same to.trace) (omega (arith, short, full)));
         further = λ k less. ap (λ j. run image inputs events j to) (zero-add k);
+        trapless = λ m bounded traps. ⊎_elim
+            (λ le. no_step_traps to (subst (λ k. IsTrap (run image inputs events k to).stop) (zero_is m le) traps))
+            (λ full. full_traps m to (not_over to.trace going) full traps) bounded;
       } where
         zero_is : (m : ℕ) → m ≤ 0 → m ≡ 0
         zero_is m le = omega (arith, le)
@@ -121,6 +154,7 @@ module _ (image : ImageParts) (inputs : List ℕ) (formed : IsWellFormed image) 
                 (prefix_same (take events to.trace));
             full = λ m le long. stays m;
             further = λ k less. absurd (omega (arith, less, full, prefix_long from.trace to.trace prefix));
+            trapless = λ m bounded traps. full_traps m from (before from prefix) full traps;
           }
 
       -- it goes on by a step
@@ -135,6 +169,7 @@ module _ (image : ImageParts) (inputs : List ℕ) (formed : IsWellFormed image) 
             full = λ m le long. full_at on m le long;
             further = λ k less. ap (λ j. run image inputs events j from) (suc-add n k) ∙ on (n + k) ∙
                 rest.further k less;
+            trapless = λ m bounded traps. trapless_at on m bounded traps;
           }
         where
           fewer_at : ((m : ℕ) → run image inputs events (suc m) from ≡ run image inputs events m next) → (m : ℕ) →
@@ -144,6 +179,13 @@ module _ (image : ImageParts) (inputs : List ℕ) (formed : IsWellFormed image) 
               (prefix_taken events from.trace to.trace prefix (omega (arith, short)))
           fewer_at on (suc m) le =
               subst (λ r. IsPrefix r.state.trace (take events to.trace)) (sym (on m)) (rest.fewer m (omega (arith, le)))
+
+          trapless_at : ((m : ℕ) → run image inputs events (suc m) from ≡ run image inputs events m next) → (m : ℕ) →
+              (m ≤ suc n) ⊎ (events ≤ length to.trace) → IsTrap (run image inputs events m from).stop → ⊥
+          trapless_at on zero bounded traps = no_step_traps from traps
+          trapless_at on (suc m) bounded traps =
+              rest.trapless m (⊎_elim (λ le. inl (omega (arith, le))) (λ full. inr full) bounded)
+              (subst (λ r. IsTrap r.stop) (on m) traps)
 
           full_at : ((m : ℕ) → run image inputs events (suc m) from ≡ run image inputs events m next) → (m : ℕ) →
               suc n ≤ m → events ≤ length to.trace →

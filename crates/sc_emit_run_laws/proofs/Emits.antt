@@ -12,8 +12,9 @@ use Rattle.sc_emit_run_laws.proofs.Common.{run_stopped, run_traps, same, same_ru
 use Rattle.sc_emit_run_laws.proofs.Common.{steps_emit, stopped, stopped_at, subst, suc, sym, take, take-append-drop}
 use Rattle.sc_emit_run_laws.proofs.Common.{take_prefixes, trace_is, true, without_line, zero, ℕ, ⊎_elim, ◌++◌, ◌+◌, ◌-◌}
 use Rattle.sc_emit_run_laws.proofs.Common.{◌<◌, ◌∙◌, ◌∷◌, ◌≡◌, ◌≤◌, ◌⊎◌}
-use Rattle.sc_image.specs.Prelude.{MachineState, a0, machine}
-use Rattle.sc_emit_run_laws.specs.Prelude.{ExceedsStack, Moment, Outcome}
+use Rattle.sc_image.specs.Prelude.{MachineRun, MachineState, a0, machine}
+use Rattle.sc_core_laws.proofs.Runs.{prefix_long}
+use Rattle.sc_emit_run_laws.specs.Prelude.{ExceedsStack, IsBlamedWithin, IsTrap, Moment, Outcome}
 use Rattle.std.proofs.Common.{take_all}
 use Rattle.sc_base.specs.declared.stop.Stop.TheVariants.{Ended as EndedStop, Trap}
 use Rattle.sc_emit_run_laws.proofs.Along.{Along, along, prefix_taken, not_over, run_prefix}
@@ -73,6 +74,12 @@ shorter_first xs ys zs a b le =
     }
 
 -- STOPPED RUNS
+blame_stops : (end : RunEnd) → IsBlamed end → IsStop end
+blame_stops Ended h = absurd h
+blame_stops (Blamed comp cause line) h = tt
+blame_stops TurnsOut h = absurd h
+blame_stops EventsOut h = absurd h
+
 unstopped_by : (events : ℕ) (run : SourceRun) (end : RunEnd) → IsStop end → length run.trace < events →
     reaches events run end ≡ false
 unstopped_by events run Ended stop short = absurd stop
@@ -124,15 +131,19 @@ module _ (image : ImageParts) (inputs : List ℕ) (formed : IsWellFormed image) 
         ap (λ k. machine image inputs k events) (sym (rest_is steps le)) ∙ further (steps - place.steps) short
 
     -- where one more step ends the run
-    pub ended_is : (steps : ℕ) → place.steps < steps → length reached.trace < events →
-        step image inputs reached ≡ Goes (on_end reached) → observed steps ≡ (on_end reached).trace
-    ended_is steps less short goes =
+    ended_run : (steps : ℕ) → place.steps < steps → length reached.trace < events →
+        step image inputs reached ≡ Goes (on_end reached) →
+        machine image inputs steps events ≡ record { state = on_end reached; stop = EndedStop }
+    ended_run steps less short goes =
         let one : steps - place.steps ≡ suc (steps - place.steps - 1) = omega (arith, less) in
-        ap (λ r. r.state.trace) (on_from steps (omega (arith, less)) short ∙
-        ap (λ k. run image inputs events k reached) one ∙
+        on_from steps (omega (arith, less)) short ∙ ap (λ k. run image inputs events k reached) one ∙
         run_goes image inputs events (steps - place.steps - 1) reached (on_end reached) (early short) goes ∙
         run_stopped image inputs events (steps - place.steps - 1) (on_end reached) EndedStop
-        (steps_emit.ended_stops events reached))
+        (steps_emit.ended_stops events reached)
+
+    pub ended_is : (steps : ℕ) → place.steps < steps → length reached.trace < events →
+        step image inputs reached ≡ Goes (on_end reached) → observed steps ≡ (on_end reached).trace
+    ended_is steps less short goes = ap (λ r. r.state.trace) (ended_run steps less short goes)
 
     -- where one more step is a trap
     pub trapped_is : (steps : ℕ) → place.steps < steps → length reached.trace < events →
@@ -142,6 +153,22 @@ module _ (image : ImageParts) (inputs : List ℕ) (formed : IsWellFormed image) 
         let one : steps - place.steps ≡ suc (steps - place.steps - 1) = omega (arith, less) in
         on_from steps (omega (arith, less)) short ∙ ap (λ k. run image inputs events k reached) one ∙
         run_traps image inputs events (steps - place.steps - 1) reached Owner (early short) traps
+
+    -- a run that a trap stops has gone past the stretch, and may emit more than it
+    pub record IsPast (steps : ℕ) : Type 0 where
+      pub more : place.steps < steps
+      pub short : length reached.trace < events
+
+    pub past_it : (steps : ℕ) → IsTrap (machine image inputs steps events).stop → IsPast steps
+    past_it steps traps = by (nat_lt place.steps steps) (nat_le events (length reached.trace)) refl refl where
+      by : (further full : Bool) → nat_lt place.steps steps ≡ further → nat_le events (length reached.trace) ≡ full →
+          IsPast steps
+      by true true is it = absurd (way.trapless steps (inr (leb-true events (length reached.trace) it)) traps)
+      by true false is it = record {
+        more = ltb-true place.steps steps is;
+        short = leb-false events (length reached.trace) it;
+      }
+      by false full is it = absurd (way.trapless steps (inl (ltb-false place.steps steps is)) traps)
 
     pub later_prefix : (steps : ℕ) → place.steps ≤ steps → length reached.trace < events →
         IsPrefix reached.trace (observed steps)
@@ -184,6 +211,12 @@ module _ (image : ImageParts) (inputs : List ℕ) (formed : IsWellFormed image) 
           ended_is bound f.place events steps less short f.ends ∙ f.trace ∙
           sym (take_all events whole (omega (arith, short, long)))
 
+    -- no trap stops it
+    finish_trapless : (steps : ℕ) → IsTrap (machine image inputs steps events).stop → ⊥
+    finish_trapless steps traps =
+        let past : IsPast bound f.place events steps = past_it bound f.place events steps traps in
+        subst (λ r. IsTrap r.stop) (ended_run bound f.place events steps past.more past.short f.ends) traps
+
     finish_back : (steps : ℕ) → IsPrefix (observed bound f.place events steps) (take events whole)
     finish_back steps = by (nat_lt f.place.steps steps) refl where
       by : (b : Bool) → nat_lt f.place.steps steps ≡ b →
@@ -221,21 +254,24 @@ module _ (image : ImageParts) (inputs : List ℕ) (formed : IsWellFormed image) 
           subst (λ t. IsPrefix t (observed bound f.place events steps)) (sym (all_is short))
           (later_prefix bound f.place events steps le short)
 
+    -- past it, in no more steps than there were turns, the run is one that is blamed
+    stand_blamed : (steps : ℕ) → steps ≤ turns → f.place.steps < steps → length there.trace < events →
+        IsBlamed (stopped_at events run.behaviour).end
+    stand_blamed steps le less short = by run.behaviour.end refl where
+      by : (end : RunEnd) → run.behaviour.end ≡ end → IsBlamed (stopped_at events run.behaviour).end
+      by Ended is = absurd (subst IsStop is f.end)
+      by (Blamed comp cause line) is =
+          subst (λ r. IsBlamed r.end) (sym (unstopped events run.behaviour f.end
+          (subst (λ t. length t < events) f.trace short))) (subst IsBlamed (sym is) tt)
+      by TurnsOut is = absurd (omega (arith, less, le, f.spent is))
+      by EventsOut is = absurd (subst IsStop is f.end)
+
     -- it emits nothing else up to there; what comes after a blame may be anything
     stand_back : (steps : ℕ) → steps ≤ turns →
         IsPrefix (observed bound f.place events steps) (take events all)
         ⊎ (IsBlamed (stopped_at events run.behaviour).end ×
         IsPrefix (take events all) (observed bound f.place events steps))
     stand_back steps le = by (nat_le steps f.place.steps) refl where
-      following : (end : RunEnd) → run.behaviour.end ≡ end → f.place.steps < steps → length there.trace < events →
-          IsBlamed (stopped_at events run.behaviour).end
-      following Ended is less short = absurd (subst IsStop is f.end)
-      following (Blamed comp cause line) is less short =
-          subst (λ r. IsBlamed r.end) (sym (unstopped events run.behaviour f.end
-          (subst (λ t. length t < events) f.trace short))) (subst IsBlamed (sym is) tt)
-      following TurnsOut is less short = absurd (omega (arith, less, le, f.spent is))
-      following EventsOut is less short = absurd (subst IsStop is f.end)
-
       past : f.place.steps < steps → (b : Bool) → nat_le events (length there.trace) ≡ b →
           IsPrefix (observed bound f.place events steps) (take events all)
           ⊎ (IsBlamed (stopped_at events run.behaviour).end ×
@@ -245,7 +281,7 @@ module _ (image : ImageParts) (inputs : List ℕ) (formed : IsWellFormed image) 
           (omega (arith, less)) (leb-true events (length there.trace) is))) (prefix_same (take events all)))
       past less false is =
           inr (
-            following run.behaviour.end refl less (leb-false events (length there.trace) is),
+            stand_blamed steps le less (leb-false events (length there.trace) is),
             stand_emits steps (omega (arith, less)),
           )
 
@@ -358,6 +394,23 @@ module _ (image : ImageParts) (inputs : List ℕ) (formed : IsWellFormed image) 
         (λ there. inr (full_traps bound turns run f events run f.exceeds f.trace bound there.0 there.1))
         (full_emits bound turns run f events bound f.place.within)
 
+    own_trapped : Outcome image inputs bound turns run → (steps events : ℕ) → steps ≤ turns →
+        IsTrap (machine image inputs steps events).stop →
+        IsBlamedWithin (seen steps events) (stopped_at events run.behaviour)
+        ⊎ StackIsFull image (machine image inputs steps events) run events
+    own_trapped (finishes f) steps events le traps = absurd (finish_trapless bound turns run f events steps traps)
+    own_trapped (stands f) steps events le traps =
+        let past : IsPast bound f.place events steps = past_it bound f.place events steps traps in
+        let more : f.place.steps < steps = past.more in
+        inl (
+          stand_blamed bound turns run f events steps le past.more past.short,
+          as_cut events (seen steps events) (stand_emits bound turns run f events steps (omega (arith, more))),
+        )
+    own_trapped (is_full f) steps events le traps =
+        let past : IsPast bound f.place events steps = past_it bound f.place events steps traps in
+        inr (full_traps bound turns run f events run f.exceeds f.trace steps past.short
+        (trapped_is bound f.place events steps past.more past.short f.traps))
+
     own_backward : Outcome image inputs bound turns run → (steps events : ℕ) → steps ≤ turns →
         IsPrefix (seen steps events) (cut events)
         ⊎ (IsBlamed (stopped_at events run.behaviour).end × IsPrefix (cut events) (seen steps events))
@@ -370,8 +423,8 @@ module _ (image : ImageParts) (inputs : List ℕ) (formed : IsWellFormed image) 
         inl (to_cut events (seen steps events) (full_back bound turns run f events steps))
 
   -- A RUN THAT IS BLAMED FOR ARITHMETIC, BESIDE ONE THAT GOES ON
-  module _ (bound turns : ℕ) (one other : Run) (trace : IsPrefix one.behaviour.trace other.behaviour.trace)
-      (frames : IsPrefix one.frames other.frames)
+  module _ (bound turns : ℕ) (one other : Run) (blame : IsBlamed one.behaviour.end)
+      (trace : IsPrefix one.behaviour.trace other.behaviour.trace) (frames : IsPrefix one.frames other.frames)
       (late : AllFrom (length one.behaviour.trace) frames.more) where
     cuts : (events : ℕ) (observed : List Event) → IsPrefix (stopped_at events other.behaviour).trace observed →
         IsPrefix (stopped_at events one.behaviour).trace observed
@@ -381,25 +434,33 @@ module _ (image : ImageParts) (inputs : List ℕ) (formed : IsWellFormed image) 
         (take events one.behaviour.trace) (take_prefixes events events one.behaviour.trace other.behaviour.trace
         (omega arith) trace))) h
 
-    module _ (f : IsFull image inputs bound turns other) (events : ℕ) where
+    -- where the machine has emitted all of its events, and may emit more, the blame stops it
+    blamed_there : (events : ℕ) (emitted : List Event) → length emitted < events → IsPrefix one.behaviour.trace emitted →
+        IsBlamedWithin emitted (stopped_at events one.behaviour)
+    blamed_there events emitted short prefix =
+        let fewer : length one.behaviour.trace ≤ length emitted = prefix_long one.behaviour.trace emitted prefix in
+        let whole : stopped_at events one.behaviour ≡ one.behaviour =
+        unstopped events one.behaviour (blame_stops one.behaviour.end blame) (omega (arith, fewer, short)) in
+        subst (IsBlamedWithin emitted) (sym whole) (blame, prefix)
+
+    module _ (f : IsFull image inputs bound turns other) (steps events : ℕ) where
       abbrev fixed : MachineState
       fixed = f.place.reached
 
       blamed_trap : length fixed.trace < events →
-          machine image inputs bound events ≡ record { state = fixed; stop = Trap Owner fixed.pc } →
-          IsPrefix (stopped_at events one.behaviour).trace (machine image inputs bound events).state.trace
-          ⊎ StackIsFull image (machine image inputs bound events) one events
+          machine image inputs steps events ≡ record { state = fixed; stop = Trap Owner fixed.pc } →
+          IsBlamedWithin (machine image inputs steps events).state.trace (stopped_at events one.behaviour)
+          ⊎ StackIsFull image (machine image inputs steps events) one events
       blamed_trap short is = by (nat_le (length one.behaviour.trace) (length fixed.trace)) refl where
         by : (b : Bool) → nat_le (length one.behaviour.trace) (length fixed.trace) ≡ b →
-            IsPrefix (stopped_at events one.behaviour).trace (machine image inputs bound events).state.trace
-            ⊎ StackIsFull image (machine image inputs bound events) one events
+            IsBlamedWithin (machine image inputs steps events).state.trace (stopped_at events one.behaviour)
+            ⊎ StackIsFull image (machine image inputs steps events) one events
         by true b =
             let less : length one.behaviour.trace ≤ length fixed.trace =
             leb-true (length one.behaviour.trace) (length fixed.trace) b in
-            inl (subst (λ r. IsPrefix (stopped_at events one.behaviour).trace r.state.trace) (sym is)
-            (as_cut bound turns one events fixed.trace (subst (λ t. IsPrefix t fixed.trace)
-            (sym (take_all events one.behaviour.trace (omega (arith, less, short))))
-            (shorter_first one.behaviour.trace fixed.trace other.behaviour.trace trace f.trace less))))
+            inl (subst (λ r. IsBlamedWithin r.state.trace (stopped_at events one.behaviour)) (sym is)
+            (blamed_there events fixed.trace short
+            (shorter_first one.behaviour.trace fixed.trace other.behaviour.trace trace f.trace less)))
         by false b =
             let more : length fixed.trace < length one.behaviour.trace =
             leb-false (length one.behaviour.trace) (length fixed.trace) b in
@@ -414,7 +475,7 @@ module _ (image : ImageParts) (inputs : List ℕ) (formed : IsWellFormed image) 
               deep = f.exceeds.deep;
             })
             (shorter_first fixed.trace one.behaviour.trace other.behaviour.trace f.trace trace (omega (arith, more)))
-            bound short is)
+            steps short is)
 
     blamed_forward : Outcome image inputs bound turns other → (events : ℕ) →
         IsPrefix (stopped_at events one.behaviour).trace (machine image inputs bound events).state.trace
@@ -429,7 +490,30 @@ module _ (image : ImageParts) (inputs : List ℕ) (formed : IsWellFormed image) 
     blamed_forward (is_full f) events =
         ⊎_elim (λ is. inl (cuts events _ (equal_cut bound turns other events
         (machine image inputs bound events).state.trace is)))
-        (λ there. blamed_trap f events there.0 there.1) (full_emits bound turns other f events bound f.place.within)
+        (λ there. ⊎_elim (λ h. inl h.1) (λ h. inr h) (blamed_trap f bound events there.0 there.1))
+        (full_emits bound turns other f events bound f.place.within)
+
+    blamed_trapped : Outcome image inputs bound turns other → (steps events : ℕ) →
+        IsTrap (machine image inputs steps events).stop →
+        IsBlamedWithin (machine image inputs steps events).state.trace (stopped_at events one.behaviour)
+        ⊎ StackIsFull image (machine image inputs steps events) one events
+    blamed_trapped (finishes f) steps events traps = absurd (finish_trapless bound turns other f events steps traps)
+    blamed_trapped (stands f) steps events traps =
+        let past : IsPast bound f.place events steps = past_it bound f.place events steps traps in
+        let more : f.place.steps < steps = past.more in
+        let here : IsBlamedWithin f.place.reached.trace (stopped_at events one.behaviour) =
+        blamed_there events f.place.reached.trace past.short
+        (subst (IsPrefix one.behaviour.trace) (sym f.trace) trace) in
+        inl (
+          here.0,
+          prefix_more (stopped_at events one.behaviour).trace f.place.reached.trace
+              (machine image inputs steps events).state.trace here.1
+              (later_prefix bound f.place events steps (omega (arith, more)) past.short),
+        )
+    blamed_trapped (is_full f) steps events traps =
+        let past : IsPast bound f.place events steps = past_it bound f.place events steps traps in
+        blamed_trap f steps events past.short
+        (trapped_is bound f.place events steps past.more past.short f.traps)
 
   module _ (bound turns : ℕ) (one other : Run) (agrees : AgreesInDepth one other)
       (outcome : Outcome image inputs bound turns other) where
@@ -439,7 +523,16 @@ module _ (image : ImageParts) (inputs : List ℕ) (formed : IsWellFormed image) 
     forward (same_run is) events =
         own_forward bound turns one (subst (Outcome image inputs bound turns) is outcome) events
     forward (blamed_run comp cause line ends soft prefix frames late) events =
-        blamed_forward bound turns one other prefix frames late outcome events
+        blamed_forward bound turns one other (subst IsBlamed (sym ends) tt) prefix frames late outcome events
+
+    trapped : RunsUntilBlame one other → (steps events : ℕ) → steps ≤ turns →
+        IsTrap (machine image inputs steps events).stop →
+        IsBlamedWithin (machine image inputs steps events).state.trace (stopped_at events one.behaviour)
+        ⊎ StackIsFull image (machine image inputs steps events) one events
+    trapped (same_run is) steps events le traps =
+        own_trapped bound turns one (subst (Outcome image inputs bound turns) is outcome) steps events le traps
+    trapped (blamed_run comp cause line ends soft prefix frames late) steps events le traps =
+        blamed_trapped bound turns one other (subst IsBlamed (sym ends) tt) prefix frames late outcome steps events traps
 
     module _ (steps events : ℕ) where
       abbrev timed : List Event
@@ -476,7 +569,7 @@ module _ (image : ImageParts) (inputs : List ℕ) (formed : IsWellFormed image) 
         following steps events (own_backward bound turns other outcome steps events le) (agrees.behaviour events)
 
     pub emits : SimulatesRun image inputs bound turns one
-    emits = record { forward = forward agrees.whole; backward = backward }
+    emits = record { forward = forward agrees.whole; backward = backward; trapped = trapped agrees.whole }
 
 -- RUNS THAT AGREE UP TO LINES
 pub blamed_too : (end other : RunEnd) → without_line end ≡ without_line other → IsBlamed other → IsBlamed end
@@ -501,22 +594,21 @@ module _ (image : ImageParts) (inputs : List ℕ) (bound turns : ℕ) (run other
     deep = there.deep;
   }
 
+  full_too : (events : ℕ) (its : MachineRun) → StackIsFull image its other events → StackIsFull image its run events
+  full_too events its h = record {
+    stop = h.stop;
+    lacks = h.lacks;
+    exceeds = exceeds_too (length its.state.trace) its.state.active h.exceeds;
+    deep = subst (λ changes. stack_size < deepest events its.state.active 0 changes) (sym agree.frames) h.deep;
+    trace = subst (IsPrefix its.state.trace) (sym (agree.behaviour events).trace) h.trace;
+  }
+
   pub emits_too : SimulatesRun image inputs bound turns run
   emits_too = record {
     forward = λ events. ⊎_elim
         (λ h. inl (subst (λ t. IsPrefix t (machine image inputs bound events).state.trace)
         (sym (agree.behaviour events).trace) h))
-        (λ h. inr (record {
-          stop = h.stop;
-          lacks = h.lacks;
-          exceeds = exceeds_too (length (machine image inputs bound events).state.trace)
-              (machine image inputs bound events).state.active h.exceeds;
-          deep = subst
-              (λ changes. stack_size < deepest events (machine image inputs bound events).state.active 0 changes)
-              (sym agree.frames) h.deep;
-          trace = subst (IsPrefix (machine image inputs bound events).state.trace) (sym (agree.behaviour events).trace)
-              h.trace;
-        })) (observed.forward events);
+        (λ h. inr (full_too events (machine image inputs bound events) h)) (observed.forward events);
     backward = λ steps events le. ⊎_elim
         (λ h. inl (subst (IsPrefix (machine image inputs steps events).state.trace) (sym (agree.behaviour events).trace)
         h))
@@ -526,6 +618,14 @@ module _ (image : ImageParts) (inputs : List ℕ) (bound turns : ℕ) (run other
           subst (λ t. IsPrefix t (machine image inputs steps events).state.trace) (sym (agree.behaviour events).trace)
               h.1,
         )) (observed.backward steps events le);
+    trapped = λ steps events le traps. ⊎_elim
+        (λ h. inl (
+          blamed_too (stopped_at events run.behaviour).end (stopped_at events other.behaviour).end
+              (agree.behaviour events).end h.0,
+          subst (λ t. IsPrefix t (machine image inputs steps events).state.trace) (sym (agree.behaviour events).trace)
+              h.1,
+        ))
+        (λ h. inr (full_too events (machine image inputs steps events) h)) (observed.trapped steps events le traps);
   }
 
 pub outcomes_simulate : OutcomesSimulate

@@ -2,7 +2,7 @@
 use Rattle.sc_emit_run_laws.proofs.Common.{Goes, HasEmitted, ImageParts, List, None, Option, Outcome, Some, Stop, Traps}
 use Rattle.sc_emit_run_laws.proofs.Common.{ap, refl, run, run_goes, run_out, run_stopped, run_traps, start, step}
 use Rattle.sc_emit_run_laws.proofs.Common.{stopped, suc, sym, then_on, walk, zero, ℕ, ◌∙◌, ◌≡◌}
-use Rattle.sc_image.specs.Prelude.{MachineState, machine}
+use Rattle.sc_image.specs.Prelude.{MachineState, Walks, machine}
 
 module _ (image : ImageParts) (inputs : List ℕ) (events : ℕ) where
   -- `taken` steps lead from a state to where a run from it stops
@@ -45,6 +45,11 @@ module _ (image : ImageParts) (inputs : List ℕ) (events : ℕ) where
   walked (suc n) from =
       or_stopped (suc n) from (stopped events from.trace) refl
       (λ early. by_step n from (walked n) early (step image inputs from) refl)
+
+  -- the way to the state in which a run stops
+  pub walks_there : (steps : ℕ) →
+      (taken : ℕ) × Walks image inputs taken (start image) (machine image inputs steps events).state
+  walks_there steps = (let way = walked steps (start image) in (way.taken, record { by = way.walks }))
 
   pub has_emitted : (steps : ℕ) → HasEmitted image inputs (machine image inputs steps events).state.trace
   has_emitted steps =

@@ -8,5 +8,7 @@ pub use Rattle.sc_emit_run_laws.specs.Linked.{functions_or_none, gives, gives_re
 pub use Rattle.sc_emit_run_laws.specs.Moments.{ExceedsStack, Moment}
 pub use Rattle.sc_emit_run_laws.specs.Outcomes.{Finishes, IsFull, Outcome, Reaches, Stands, finishes, is_full, stands}
 pub use Rattle.sc_emit_run_laws.specs.Results.{GivesResults, bodies}
-pub use Rattle.sc_emit_run_laws.specs.Runs.{IsBlamed, KeepsTo, OutcomesSimulate, SimulatesRun, StackIsFull}
-pub use Rattle.sc_emit_run_laws.specs.Simulation.{IsBuilt, ScriptsSimulate, Simulates, nobody}
+pub use Rattle.sc_emit_run_laws.specs.Runs.{IsBlamed, IsBlamedWithin, IsTrap, KeepsTo, OutcomesSimulate}
+pub use Rattle.sc_emit_run_laws.specs.Runs.{SimulatesRun, StackIsFull}
+pub use Rattle.sc_emit_run_laws.specs.Simulation.{HasOutcome, IsBuilt, ScriptsSimulate, ScriptsStop, Simulates}
+pub use Rattle.sc_emit_run_laws.specs.Simulation.{nobody}

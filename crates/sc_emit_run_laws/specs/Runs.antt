@@ -4,7 +4,8 @@ use Rattle.sc_emit_run_laws.specs.Common.{IsWellFormed, IsWord, LacksRoom, Owner
 use Rattle.sc_emit_run_laws.specs.Common.{machine, stack_size, stopped_at}
 use Rattle.sc_image.specs.Prelude.{MachineRun as MachineRun}
 use Rattle.std.specs.Prelude.{◌≡◌, ℕ, ◌<◌, ◌≤◌, ◌⊎◌, List, length, All}
-use Rattle.sc_base.specs.declared.stop.Stop.TheVariants.{Trap}
+use Rattle.sc_base.specs.declared.stop.Stop.{Stop}
+use Rattle.sc_base.specs.declared.stop.Stop.TheVariants.{Ended as EndedStop, EventsOut as EventsStop, StepsOut, Trap}
 use Rattle.sc_core.specs.declared.run.RunEnd.{RunEnd}
 use Rattle.sc_core.specs.declared.run.SourceRun.{SourceRun}
 use Rattle.sc_emit_run_laws.specs.Moments.{ExceedsStack}
@@ -19,6 +20,16 @@ IsBlamed EventsOut = ⊥
 -- a run keeps to a trace: it emits all of it, or is blamed before
 abbrev pub KeepsTo : List Event → SourceRun → Type 0
 KeepsTo trace run = IsPrefix trace run.trace ⊎ (IsBlamed run.end × IsPrefix run.trace trace)
+
+abbrev pub IsTrap : Stop → Type 0
+IsTrap EndedStop = ⊥
+IsTrap EventsStop = ⊥
+IsTrap StepsOut = ⊥
+IsTrap (Trap reason pc) = Unit {0}
+
+-- a run is blamed, and its events begin a trace
+abbrev pub IsBlamedWithin : List Event → SourceRun → Type 0
+IsBlamedWithin trace run = IsBlamed run.end × IsPrefix run.trace trace
 
 -- a stack is full: the machine stands trapped where a function's frame has no room, and has emitted a prefix of the
 -- trace of the run, stopped at `events` events. In that run the depth of the same compartment is more than a stack's
@@ -40,6 +51,10 @@ pub record SimulatesRun (image : ImageParts) (inputs : List ℕ) (bound turns : 
       IsPrefix (machine image inputs steps events).state.trace (stopped_at events run.behaviour).trace
       ⊎ (IsBlamed (stopped_at events run.behaviour).end ×
       IsPrefix (stopped_at events run.behaviour).trace (machine image inputs steps events).state.trace)
+  -- where a trap stops it in no more steps, the run is blamed after events that it emitted, or a stack is full
+  pub trapped : (steps events : ℕ) → steps ≤ turns → IsTrap (machine image inputs steps events).stop →
+      IsBlamedWithin (machine image inputs steps events).state.trace (stopped_at events run.behaviour)
+      ⊎ StackIsFull image (machine image inputs steps events) run events
 
 -- from the outcome beside a run, for each run that agrees with it up to a blame for arithmetic and the lines of blames
 pub record OutcomesSimulate : Type 0 where

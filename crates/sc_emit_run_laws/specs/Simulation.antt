@@ -1,11 +1,11 @@
 -- The machine on a linked image does what the code of its program does.
-use Rattle.sc_emit_run_laws.specs.Common.{Addresses, ImageParts, IsFunction, IsProgram, IsWord, Roles, TacFnTree}
+use Rattle.sc_emit_run_laws.specs.Common.{Addresses, ImageParts, IsFunction, IsProgram, IsWord, Roles, Run, TacFnTree}
 use Rattle.sc_emit_run_laws.specs.Common.{TacTree, code_run, legal, machine, scripted_code_run, wrapping}
 use Rattle.std.specs.Prelude.{◌≡◌, ℕ, suc, ◌*◌, Bool, true, false, List, [], All, Some, slice_get}
 use Rattle.sc_emit_run_laws.specs.Linked.{IsLinked, functions_in}
 use Rattle.sc_emit_run_laws.specs.Outcomes.{Outcome}
 use Rattle.sc_emit_run_laws.specs.Results.{GivesResults}
-use Rattle.sc_emit_run_laws.specs.Runs.{KeepsTo}
+use Rattle.sc_emit_run_laws.specs.Runs.{IsTrap, KeepsTo}
 
 -- nobody performs
 abbrev pub nobody : Roles
@@ -35,3 +35,17 @@ ScriptsSimulate = (program : TacTree) (image : ImageParts) (turn_pays : ℕ) (se
     let observed = (machine image inputs steps events).state.trace in
     legal program.interfaces observed ≡ true →
     KeepsTo observed (scripted_code_run wrapping program inputs steps set observed).behaviour
+
+-- what comes of the machine beside a run, within some bound on steps
+pub record HasOutcome (image : ImageParts) (inputs : List ℕ) (turns : ℕ) (run : Run) : Type 0 where
+  pub bound : ℕ
+  pub outcome : Outcome image inputs bound turns run
+
+-- where a trap stops the machine in a compartment that doesn't perform, the run in which the others perform their parts of
+-- its trace has an outcome, with as many turns as the machine may take steps
+abbrev pub ScriptsStop : Type 0
+ScriptsStop = (program : TacTree) (image : ImageParts) (turn_pays : ℕ) (set : ℕ → Bool) →
+    IsBuilt set program image turn_pays → (inputs : List ℕ) (steps events : ℕ) → All IsWord inputs →
+    let its = machine image inputs steps events in
+    legal program.interfaces its.state.trace ≡ true → IsTrap its.stop → set its.state.active ≡ false →
+    HasOutcome image inputs steps (scripted_code_run wrapping program inputs steps set its.state.trace)

@@ -3,4 +3,4 @@
 
 mod laws;
 
-pub use laws::{outcomes_simulate, scripts_simulate, simulates, stands_but_for};
+pub use laws::{outcomes_simulate, scripts_simulate, scripts_stop, simulates, stands_but_for};
