@@ -68,8 +68,8 @@ module _ (denotations : Denotations) where
         (roles_run denotations globals inputs turns roles).behaviour.trace
     run_blames = piece_blames (suc turns) _ (main_walks denotations walk (suc turns)
         (within (scripted_step denotations roles (run_step denotations)) (suc turns))
-        (scripted_walks denotations walk (λ n st s at. at) (λ st comp number is. is) (λ st comp number f is. is) obedient
-        roles (λ comp number plain is n st here cause line s at. record { at = st; stood = at; active = sym here })
+        (scripted_walks denotations walk (λ n st s at. at) (λ st comp number is. is) (λ st comp number f is. is)
+        obedient roles (λ comp number plain is n st here cause line s at. record { at = st; stood = at; active = sym here })
         (suc turns)) begins (first_state globals inputs turns) (λ none. tt) (λ number is none. tt)
         (λ number f is. refl) refl)
 

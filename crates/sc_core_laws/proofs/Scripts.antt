@@ -1,6 +1,6 @@
 -- A run in which a set performs its part of a legal trace: where it is out of turns while it keeps to the trace and
--- hasn't emitted all of it, it has none left. For there the next row of the active compartment is its next event. Nor has
--- it any left where the active compartment doesn't perform, for then it lacks no row.
+-- hasn't emitted all of it, it has none left. For there the next row of the active compartment is its next event. Nor
+-- has it any left where the active compartment doesn't perform, for then it lacks no row.
 use Rattle.sc_core_laws.proofs.Common.{Action, BadType, Blamed, Body, Bool, Call, CallTarget, Cross, Denotations, End}
 use Rattle.sc_core_laws.proofs.Common.{Ended, Event, EventsOut, Export, ExportsLead, Here, In, Input, Interfaces, Kept}
 use Rattle.sc_core_laws.proofs.Common.{List, Main, Memory, None, Obedient, Option, Out, Output, Piece, Property, Ret}

@@ -435,8 +435,8 @@ module _ (image : ImageParts) (inputs : List ℕ) (formed : IsWellFormed image) 
         (omega arith) trace))) h
 
     -- where the machine has emitted all of its events, and may emit more, the blame stops it
-    blamed_there : (events : ℕ) (emitted : List Event) → length emitted < events → IsPrefix one.behaviour.trace emitted →
-        IsBlamedWithin emitted (stopped_at events one.behaviour)
+    blamed_there : (events : ℕ) (emitted : List Event) → length emitted < events →
+        IsPrefix one.behaviour.trace emitted → IsBlamedWithin emitted (stopped_at events one.behaviour)
     blamed_there events emitted short prefix =
         let fewer : length one.behaviour.trace ≤ length emitted = prefix_long one.behaviour.trace emitted prefix in
         let whole : stopped_at events one.behaviour ≡ one.behaviour =
@@ -532,7 +532,8 @@ module _ (image : ImageParts) (inputs : List ℕ) (formed : IsWellFormed image) 
     trapped (same_run is) steps events le traps =
         own_trapped bound turns one (subst (Outcome image inputs bound turns) is outcome) steps events le traps
     trapped (blamed_run comp cause line ends soft prefix frames late) steps events le traps =
-        blamed_trapped bound turns one other (subst IsBlamed (sym ends) tt) prefix frames late outcome steps events traps
+        blamed_trapped bound turns one other (subst IsBlamed (sym ends) tt) prefix frames late outcome steps events
+        traps
 
     module _ (steps events : ℕ) where
       abbrev timed : List Event

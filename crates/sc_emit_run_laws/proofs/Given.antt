@@ -4,15 +4,16 @@ use Rattle.sc_emit_run_laws.proofs.Common.{Addresses, Bool, Cell, CodeAt, Enters
 use Rattle.sc_emit_run_laws.proofs.Common.{ImageParts, InCell, List, None, Option, Placed, Some, TacFnTree}
 use Rattle.sc_emit_run_laws.proofs.Common.{[], ap, ap₂, arith, exported_by, export_params, false, has_result}
 use Rattle.sc_emit_run_laws.proofs.Common.{if◌then◌else◌, length, length-map, list_any, map, may_input, may_output}
-use Rattle.sc_emit_run_laws.proofs.Common.{nat_le, option_and_then, option_map, option_map_or, position, refl, slice_get}
+use Rattle.sc_emit_run_laws.proofs.Common.{nat_le, option_and_then, option_map, option_map_or, position, refl}
+use Rattle.sc_emit_run_laws.proofs.Common.{slice_get}
 use Rattle.sc_emit_run_laws.proofs.Common.{slice_get-map, slice_get_within, stack_top, subst, suc, sym, true, zero, ℕ}
 use Rattle.sc_emit_run_laws.proofs.Common.{◌%◌, ◌&&◌, ◌*◌, ◌+◌, ◌-◌, ◌/◌, ◌==◌, ◌∙◌, ◌∷◌, ◌≡◌, ◌≤◌}
 use Rattle.std.specs.Prelude.{nat_eq}
 use Rattle.rv_code.specs.declared.instr.Instr.{Instr}
 use Rattle.sc_image.specs.declared.parts.CompPart.{CompPart}
 use Rattle.sc_image.specs.declared.parts.ExportPart.{ExportPart}
-use Rattle.sc_image.specs.Prelude.{Filled, ImportPart, byte_at, code_start, comp_of_data, data_end, data_regions, data_start}
-use Rattle.sc_image.specs.Prelude.{data_with, entered_export, has_heap, imported_by, may_call_export}
+use Rattle.sc_image.specs.Prelude.{Filled, ImportPart, byte_at, code_start, comp_of_data, data_end, data_regions}
+use Rattle.sc_image.specs.Prelude.{data_start, data_with, entered_export, has_heap, imported_by, may_call_export}
 unfoldable use Rattle.sc_image.specs.Layout.{are_data, word_at}
 unfoldable use Rattle.sc_image.specs.State.{start_memory}
 use Rattle.sc_store.proofs.Words.{load_of-same}

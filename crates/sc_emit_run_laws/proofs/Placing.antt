@@ -183,7 +183,8 @@ module _ {program : TacTree} {image : ImageParts} {turn_pays : ℕ} {performs : 
   globals_are comp section here = ap (λ o. length (first_blocks o)) here ∙ length-map section.globals _
 
   global_place : (comp number : ℕ) (section : TacSection) → performs comp ≡ false →
-      slice_get program.sections comp ≡ Some section → number < length section.globals → IsAddress ((built.addresses comp).global number)
+      slice_get program.sections comp ≡ Some section → number < length section.globals →
+      IsAddress ((built.addresses comp).global number)
   global_place comp number section honest here below =
       let its = is_there section.globals number below in
       (built.linked.globals comp number _ honest

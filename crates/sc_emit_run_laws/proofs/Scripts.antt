@@ -124,7 +124,8 @@ module _ (program : TacTree) (image : ImageParts) (turn_pays : ℕ) (set : ℕ �
   MainGives (Reached v s) = (bound : ℕ) × Finishes image inputs bound steps (run_to main (Reached v s))
   MainGives (Stopped end s) = (budget : ℕ) × Emits T P x budget s
 
-  -- the machine stands trapped since a stack is full, and has emitted the events of a state from which the piece goes on
+  -- the machine stands trapped since a stack is full, and has emitted the events of a state from which the piece goes
+  -- on
   pub record IsTrapped (piece : Piece (Option Value)) : Type 0 where
     pub taken : ℕ
     pub reached : MachineState
@@ -212,7 +213,8 @@ module _ (program : TacTree) (image : ImageParts) (turn_pays : ℕ) (set : ℕ �
             emits_stop image inputs built.linked.formed steps events (suc observed.steps) place
             (run_to main (Stopped end s)).behaviour observed.trace (subst (Gone x.meant) is gone).stop used
 
-        -- where a trap stops the machine in a compartment that doesn't perform, it is out of turns only after as many steps
+        -- where a trap stops the machine in a compartment that doesn't perform, it is out of turns only after as many
+        -- steps
         module _ (traps : IsTrap its.stop) (honest : set its.state.active ≡ false) where
           its_prefix : IsPrefix s.trace trace
           its_prefix =
@@ -220,15 +222,15 @@ module _ (program : TacTree) (image : ImageParts) (turn_pays : ℕ) (set : ℕ �
               past_it image inputs built.linked.formed (suc observed.steps) place events steps traps in
               let more : observed.steps < steps = past.more in
               subst (λ t. IsPrefix t trace) observed.trace
-              (later_prefix image inputs built.linked.formed (suc observed.steps) place events steps (omega (arith, more))
-              past.short)
+              (later_prefix image inputs built.linked.formed (suc observed.steps) place events steps
+              (omega (arith, more)) past.short)
 
           spent_outside : end ≡ TurnsOut → trace ≡ s.trace → steps ≤ observed.steps
           spent_outside out same =
               let way = walks_there image inputs events steps in
               let spent : IsSpentOutside main set s =
-              spends_outside denotations (code_obeys.itself wrapping program) (exports_lead program built.rules) led trace
-              is_legal set globals inputs steps s (called_whole ∙ is ∙ ap (λ end. Stopped end s) out) in
+              spends_outside denotations (code_obeys.itself wrapping program) (exports_lead program built.rules) led
+              trace is_legal set globals inputs steps s (called_whole ∙ is ∙ ap (λ end. Stopped end s) out) in
               let stood_so : spent.at ≡ standing_in its.state =
               (stands_so image inputs built.linked.formed way.0 its.state way.1).place spent.at
               (ap (λ main. stands_after_all (at_start main) trace) built.linked.main ∙

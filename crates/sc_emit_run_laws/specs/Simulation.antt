@@ -27,8 +27,8 @@ Simulates = (program : TacTree) (image : ImageParts) (turn_pays : ℕ) →
     IsBuilt nobody.scripted program image turn_pays → (inputs : List ℕ) (turns : ℕ) → All IsWord inputs →
     Outcome image inputs (turn_pays * suc turns) turns (code_run wrapping program inputs turns)
 
--- where a set performs its part of the machine's trace, whatever code the image has for its compartments, the run of all
--- other code keeps to that trace, with as many turns as the machine may take steps
+-- where a set performs its part of the machine's trace, whatever code the image has for its compartments, the run of
+-- all other code keeps to that trace, with as many turns as the machine may take steps
 abbrev pub ScriptsSimulate : Type 0
 ScriptsSimulate = (program : TacTree) (image : ImageParts) (turn_pays : ℕ) (set : ℕ → Bool) →
     IsBuilt set program image turn_pays → (inputs : List ℕ) (steps events : ℕ) → All IsWord inputs →
@@ -41,8 +41,8 @@ pub record HasOutcome (image : ImageParts) (inputs : List ℕ) (turns : ℕ) (ru
   pub bound : ℕ
   pub outcome : Outcome image inputs bound turns run
 
--- where a trap stops the machine in a compartment that doesn't perform, the run in which the others perform their parts of
--- its trace has an outcome, with as many turns as the machine may take steps
+-- where a trap stops the machine in a compartment outside of a set, the run in which the set performs its part of the
+-- trace has an outcome, with as many turns as the machine may take steps
 abbrev pub ScriptsStop : Type 0
 ScriptsStop = (program : TacTree) (image : ImageParts) (turn_pays : ℕ) (set : ℕ → Bool) →
     IsBuilt set program image turn_pays → (inputs : List ℕ) (steps events : ℕ) → All IsWord inputs →
