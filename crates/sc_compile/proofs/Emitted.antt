@@ -14,6 +14,7 @@ use Rattle.sc_compile.proofs.Linkable.{is_linkable}
 use Rattle.sc_compile.proofs.Linked.{is_linked}
 use Rattle.sc_compile.proofs.NoTests.{no_tests}
 use Rattle.sc_compile.proofs.Results.{gives_results, source_of}
+use Rattle.sc_compile.proofs.Stop.{ends_by_event}
 use Rattle.sc_compile.proofs.Tac.{MeansIn, function_rules, means_in_c, means_wrapped, tac_rules}
 
 -- a run agrees with itself
@@ -99,6 +100,9 @@ module _ (program : ProgramTree) (typed : IsWellTyped program) (named : AreNamed
     scripted = λ inputs steps events set are.
         itself_robust.scripted inputs steps events set (λ c none. absurd (cc)) are;
     allowed = itself_robust.allowed;
+    trapped = λ inputs steps events are traps. (emits_c inputs steps are).trapped steps events (omega arith) traps;
+    trapped_outside = itself_robust.trapped_outside;
+    ends = ends_by_event image;
     robust = λ given other but.
         robust program typed (all_codes (program_tac program)) turn_pays built interfaces given other but;
   }

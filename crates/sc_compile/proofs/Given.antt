@@ -13,6 +13,7 @@ use Rattle.sc_emit_run_laws.proofs.Given.{stands_but_for}
 use Rattle.sc_emit_run_laws.proofs.Whole.{scripts_simulate}
 use Rattle.sc_compile.proofs.Allowed.{same_legal}
 use Rattle.sc_compile.proofs.Scripted.{scripted_emits}
+use Rattle.sc_compile.proofs.Stop.{traps_outside}
 
 -- WHAT OTHERS SEE
 -- a compartment of which others see the same has the same interface
@@ -95,6 +96,9 @@ module _ (program : ProgramTree) (typed : IsWellTyped program) (codes : List Cod
           (scripts_simulate (program_tac program) other turn_pays set (built_but_for set larger) inputs steps events
           are (allowed_too inputs steps events are));
       allowed = allowed_too;
+      trapped_outside = λ inputs steps events set larger are traps honest has.
+          traps_outside program typed other turn_pays set (built_but_for set larger) inputs steps events are
+          (allowed_too inputs steps events are) traps honest has;
     }
 
   -- the image is itself but for nobody

@@ -16,5 +16,7 @@ pub mod Refused
 pub mod Reported
 pub mod Results
 pub mod Scripted
+pub mod Stop
+pub mod Why
 pub mod Tac
 pub mod Emitted

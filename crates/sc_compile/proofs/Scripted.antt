@@ -17,19 +17,19 @@ use Rattle.sc_emit_run_laws.proofs.Kept.{keeps_along, keeps_until_blame}
 use Rattle.sc_compile.proofs.Tac.{means_in_c}
 
 -- a blame with its compartment
-record IsBlame (end : RunEnd) : Type 0 where
-  comp : ℕ
-  cause : Cause
-  line : ℕ
-  is : end ≡ Blamed comp cause line
+pub record IsBlame (end : RunEnd) : Type 0 where
+  pub comp : ℕ
+  pub cause : Cause
+  pub line : ℕ
+  pub is : end ≡ Blamed comp cause line
 
-blame_of : (end : RunEnd) → IsBlamed end → IsBlame end
+pub blame_of : (end : RunEnd) → IsBlamed end → IsBlame end
 blame_of Ended h = absurd h
 blame_of (Blamed comp cause line) h = record { comp = comp; cause = cause; line = line; is = refl }
 blame_of TurnsOut h = absurd h
 blame_of EventsOut h = absurd h
 
-stops_so : (end : RunEnd) → IsBlamed end → IsStop end
+pub stops_so : (end : RunEnd) → IsBlamed end → IsStop end
 stops_so Ended h = absurd h
 stops_so (Blamed comp cause line) h = tt
 stops_so TurnsOut h = absurd h

@@ -5,10 +5,11 @@ use Rattle.sc_compile.specs.Common.{branches, c_arith, is_branch, is_ebreak, mac
 use Rattle.sc_compile.specs.Common.{run_of, scripted_meaning, total, wrapping}
 use Rattle.sc_base.specs.Prelude.{IsPrefix}
 use Rattle.sc_event.specs.Prelude.{legal}
-use Rattle.sc_core_laws.specs.Prelude.{IsBlamedOutside, CompSet, IsSubset}
+use Rattle.sc_core_laws.specs.Prelude.{IsBlamedOutside, CompSet, IsSubset, nobody}
 use Rattle.rv_code.specs.Prelude.{decoded}
 use Rattle.sc_image.specs.Prelude.{IsButFor, IsWellFormed, code_in}
 use Rattle.sc_linker.specs.Prelude.{HasInterfaces}
+use Rattle.sc_compile.specs.Stop.{EndsByEvent, TrapsOutside, TrapsWhereBlamed}
 use Rattle.std.specs.Prelude.{◌≡◌, ℕ, suc, ◌*◌, ◌<◌, ◌≤◌, ◌⊎◌, Bool, true, false, List, ◌++◌, length, map, All, Option}
 use Rattle.std.specs.Prelude.{None, Some, slice_get}
 use Rattle.std.specs.List.{AllZip, concat, count_by}
@@ -77,6 +78,8 @@ pub record IsRobust (program : ProgramTree) (given : CompSet) (image : ImagePart
   -- the program's interfaces allow the machine's trace
   pub allowed : (inputs : List ℕ) (steps events : ℕ) → All IsWord inputs →
       legal program.interfaces (machine image inputs steps events).state.trace ≡ true
+  -- where a trap stops the machine outside of a set that includes the given compartments and performs
+  pub trapped_outside : TrapsOutside program image given
 
 pub record IsCompiled (program : ProgramTree) (image : ImageParts) : Type 0 where
   -- so that the laws of isolation hold of it
@@ -98,5 +101,9 @@ pub record IsCompiled (program : ProgramTree) (image : ImageParts) : Type 0 wher
   -- the program's interfaces allow the machine's trace
   pub allowed : (inputs : List ℕ) (steps events : ℕ) → All IsWord inputs →
       legal program.interfaces (machine image inputs steps events).state.trace ≡ true
+  -- where a trap stops the machine
+  pub trapped : TrapsWhereBlamed program image
+  pub trapped_outside : TrapsOutside program image nobody
+  pub ends : EndsByEvent image
   -- in place of some compartments any code may stand
   pub robust : (given : CompSet) (other : ImageParts) → IsButFor given image other → IsRobust program given other

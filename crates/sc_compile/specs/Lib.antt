@@ -6,3 +6,5 @@ pub mod Globals
 pub mod Image
 pub mod Passes
 pub mod Sizes
+pub mod Stop
+pub mod Why

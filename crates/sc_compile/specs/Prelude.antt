@@ -9,5 +9,7 @@ pub use Rattle.sc_compile.specs.Image.{function_tac, image_of, program_tac, sect
 pub use Rattle.sc_compile.specs.Image.{unless_large}
 pub use Rattle.sc_compile.specs.Passes.{AreEmitted, CanBeCompiled, EachEmits, EmitsAll, EmitsFrom, EmitsSo, Fits}
 pub use Rattle.sc_compile.specs.Passes.{code_from}
+pub use Rattle.sc_compile.specs.Stop.{EndsByEvent, IsBlamedThere, TrapsOutside, TrapsWhereBlamed}
+pub use Rattle.sc_compile.specs.Why.{Blame, FindsWhy, FullStack, IsWhy, Replaced, Why, why}
 pub use Rattle.sc_compile.specs.Sizes.{above, code_size, data_size, faults_from, first, found_in, frame_bytes}
 pub use Rattle.sc_compile.specs.Sizes.{large_code, large_data, large_frame, large_frames, too_large}
