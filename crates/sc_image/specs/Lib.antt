@@ -18,3 +18,4 @@ pub mod Rules
 pub mod Reading
 pub mod RoundTrip
 pub mod Interfaces
+pub mod Apart
