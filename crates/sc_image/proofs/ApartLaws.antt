@@ -8,8 +8,7 @@ use Rattle.sc_image.proofs.Common.{list_any, map, nat_eq, nat_le, option_map_or,
 use Rattle.sc_image.proofs.Common.{subst, suc, sym, true, zero, ℕ, ◌%◌, ◌&&◌, ◌++◌, ◌+◌, ◌-◌, ◌/◌, ◌==◌, ◌∙◌, ◌∷◌}
 use Rattle.sc_image.proofs.Common.{◌≡◌, ◌≢◌, ◌≤◌, ◌⊎◌}
 unfoldable use Rattle.sc_image.proofs.Common.{are_data, word_at}
-use Rattle.sc_event.specs.Standing.{performer}
-use Rattle.sc_image.specs.Apart.{ActsNext, AgreeBut, AgreeUpTo, AreApart, BeginOtherwise, DifferBy, GlobalsApart, GoOn}
+use Rattle.sc_image.specs.Apart.{ActsNext, AgreeUpTo, AreApart, BeginOtherwise, GlobalsApart, GoOn}
 use Rattle.sc_image.specs.Apart.{HaveParted, HaveStopped, IsDelayed, ItsOutOfSteps, OnlySetDelays, OutOfSteps, PartAt}
 use Rattle.sc_image.specs.Apart.{PartThere, SameAgree, SameBut, StopBoth, StopsApart, TracesApart, globals_in}
 use Rattle.sc_image.specs.Apart.{image_with, next_outside, one_if_out, steps_outside}

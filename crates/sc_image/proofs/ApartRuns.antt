@@ -5,15 +5,14 @@ use Rattle.sc_image.proofs.Common.{TrapReason, Traps, [], ap, append-nil, append
 use Rattle.sc_image.proofs.Common.{if◌then◌else◌, inl, inr, refl, run, start, step, stopped, subst, suc, sym, true}
 use Rattle.sc_image.proofs.Common.{zero, zero-add, ℕ, ⊎_elim, ◌++◌, ◌+◌, ◌∙◌, ◌∷◌, ◌≡◌, ◌≢◌, ◌⊎◌}
 use Rattle.std.proofs.lemmas.Bool.{cases_eq}
-use Rattle.sc_event.specs.Standing.{performer}
-use Rattle.sc_image.specs.Apart.{ActsNext, AgreeBut, AlikeBut, AreApart, BeginOtherwise, GoOn, IsOut, ItsOutOfSteps}
+use Rattle.sc_image.specs.Apart.{ActsNext, AgreeBut, AlikeBut, AreApart, BeginOtherwise, GoOn, ItsOutOfSteps}
 use Rattle.sc_image.specs.Apart.{OutOfSteps, PartAt, PartThere, RunsApart, StopBoth, next_outside, steps_outside}
 use Rattle.sc_image.specs.Isolation.{IsLoud, IsQuiet}
 use Rattle.sc_image.proofs.Cases.{AtNext}
 use Rattle.sc_image.proofs.Reached.{steady_start}
 use Rattle.sc_image.proofs.Running.{run_goes, run_keeps, run_out, run_stopped, run_traps}
 use Rattle.sc_image.proofs.Stretches.{goes_adds, prefix_on, prefix_self}
-use Rattle.sc_image.proofs.StepKinds.{HasEntry, Kind, next_kind}
+use Rattle.sc_image.proofs.StepKinds.{HasEntry, next_kind}
 use Rattle.sc_image.proofs.ApartSteps.{Pair, both_loud, goes_outside, no_trap_here, no_trap_there, quiet_here}
 use Rattle.sc_image.proofs.ApartSteps.{quiet_there, same_pc, same_reason}
 use Rattle.sc_image.proofs.ApartStart.{start_alike}

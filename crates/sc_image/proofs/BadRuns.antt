@@ -15,7 +15,7 @@ use Rattle.sc_event.specs.Standing.{performer}
 use Rattle.sc_image.specs.Common.{Event, Out, StepsOut}
 use Rattle.sc_image.specs.declared.parts.CompPart.{CompPart}
 use Rattle.sc_image.specs.declared.parts.ImageParts.{ImageParts}
-use Rattle.sc_image.specs.Apart.{AgreeBut, AgreeUpTo, Execution, RunsApartBy, SameBut, TracesApartBy}
+use Rattle.sc_image.specs.Apart.{AgreeBut, AgreeUpTo, Execution, RunsApartBy, TracesApartBy}
 use Rattle.sc_image.specs.Calls.{exported_by}
 use Rattle.sc_image.specs.Cross.{on_call}
 use Rattle.sc_image.specs.Isolation.{AddsOneBy, IsIsolating, IsLoud, IsQuiet, KeepsSteadyBy, Stepping}
