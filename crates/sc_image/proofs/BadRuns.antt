@@ -1,13 +1,14 @@
 -- Three ways to run an image by which a compartment learns what belongs to another one, or may learn it. The laws of
 -- runs or of steps refuse each of them.
-use Rattle.std.proofs.Common.{List, Some, [], ap, arith, codes, eqb-true, false, if◌then◌else◌, inl, inr, is_some}
+use Rattle.std.proofs.Common.{Bool, List, None, Option, Some, [], ap, arith, codes, eq-eqb, eqb-true, false, flat_map}
+use Rattle.std.proofs.Common.{if◌then◌else◌, inl, inr, is_some}
 use Rattle.std.proofs.Common.{length, nat_eq, refl, slice_get, slice_index, slice_index_or, slice_set, subst, suc, sym}
 use Rattle.std.proofs.Common.{true, zero, ℕ, ◌++◌, ◌<◌, ◌^◌, ◌∙◌, ◌∷◌, ◌≡◌, ◌≢◌, ◌⊎◌}
 use Rattle.std.proofs.lemmas.Bool.{false≢true}
 use Rattle.std.proofs.lemmas.List.Elements.{All-from_recursion}
 use Rattle.std.proofs.lemmas.Option.{none-some, same_Some}
 use Rattle.std.specs.List.{AllByRecursion}
-use Rattle.std.specs.Option.{option_map_or}
+use Rattle.std.specs.Option.{option_map, option_map_or}
 use Rattle.std.specs.Prelude.{drop}
 unfoldable use Rattle.sc_base.specs.Prelude.{is_name}
 use Rattle.sc_base.specs.Word.{IsWord}
@@ -18,13 +19,15 @@ use Rattle.sc_image.specs.declared.parts.ImageParts.{ImageParts}
 use Rattle.sc_image.specs.Apart.{AgreeBut, AgreeUpTo, Execution, RunsApartBy, TracesApartBy}
 use Rattle.sc_image.specs.Calls.{exported_by}
 use Rattle.sc_image.specs.Cross.{on_call}
-use Rattle.sc_image.specs.Isolation.{AddsOneBy, IsIsolating, IsLoud, IsQuiet, KeepsSteadyBy, Stepping}
+use Rattle.sc_image.specs.Isolation.{Adds, AddsOneBy, EntersByEventBy, FollowsFromOwnBy, IsIsolating, IsLoud, IsQuiet}
+use Rattle.sc_image.specs.Isolation.{IsSilentBy, KeepsSteadyBy, LeavesDataBy, LeavesOthersBy, Point, Stepping}
+use Rattle.sc_image.specs.Isolation.{activates, after_outcome, later_by, observation_of, own_at}
 use Rattle.sc_image.specs.Layout.{initial_globals}
 unfoldable use Rattle.sc_image.specs.Layout.{word_at}
 use Rattle.sc_image.specs.Machine.{MachineRun, after, run, stops_or}
 unfoldable use Rattle.sc_image.specs.Machine.{run_by, stopped}
-use Rattle.sc_image.specs.Own.{Own, own}
-use Rattle.sc_image.specs.State.{MachineState, reg, start, with_event, with_reg}
+use Rattle.sc_image.specs.Own.{Own, Running, data_of, kept_by, own}
+use Rattle.sc_image.specs.State.{MachineState, reg, saved_sp, start, with_event, with_reg, zone_of}
 use Rattle.sc_image.specs.Steady.{IsSteadyState}
 use Rattle.sc_image.specs.Step.{Goes}
 use Rattle.sc_image.specs.WellFormed.{IsComp, IsExport, IsImport, IsWellFormed}
@@ -34,6 +37,8 @@ use Rattle.sc_image.proofs.BadMachines as bad
 use Rattle.sc_image.proofs.Cases.{length-written}
 use Rattle.sc_image.proofs.Reached.{steady_start}
 use Rattle.sc_image.proofs.Words.{written_words, written_zero}
+use Rattle.std.proofs.Math.Seq.{drop-append_seam}
+use Rattle.sc_image.proofs.Isolation.{idle_both}
 
 -- The image: `M` and `N` call nobody, and `N` has one byte of globals, which only it may know.
 
@@ -180,6 +185,137 @@ leaves_steady keeps =
     (steady_start (secret 0) (formed 0 small)) in
     let zero_is : ◌≡◌ {A = ℕ} 1 0 = h.zero in
     omega (arith, zero_is)
+
+-- It meets all other laws of steps.
+
+-- the state after a step from a steady one
+abbrev told_once : MachineState → MachineState
+told_once state = record (with_event state (Out state.active 0)) { regs = slice_set state.regs 0 1 }
+
+tells_is : (image : ImageParts) (inputs : List ℕ) (state : MachineState) → IsSteadyState image state →
+    tells image inputs state ≡ Goes (told_once state)
+tells_is image inputs state h = ap (λ b. if b then Goes (told_once state) else
+    Goes (with_event state (Out state.active (first_global image)))) (eq-eqb (reg state 0) 0 h.zero)
+
+seen : (image : ImageParts) (inputs : List ℕ) (state : MachineState) → IsSteadyState image state →
+    observation_of state (tells image inputs state) ≡ Adds (Out state.active 0 ∷ [])
+seen image inputs state h =
+    ap (observation_of state) (tells_is image inputs state h) ∙ ap Adds (drop-append_seam state.trace _)
+
+tells_one : AddsOneBy tells
+tells_one image inputs state next formed h goes =
+    let same : Goes (told_once state) ≡ Goes next = sym (tells_is image inputs state h) ∙ goes in
+    let is_next : told_once state ≡ next = cc same in
+    subst (λ n. IsQuiet state n ⊎ IsLoud state n) is_next
+    (inr (record { event = Out state.active 0; trace = refl; by = refl; active = refl }))
+
+tells_leaves : LeavesOthersBy tells
+tells_leaves image inputs state d formed h differ none =
+    let other : state.active ≢ d = λ same. differ (sym same) in
+    let idle = idle_both state.active state.active d (record { regs = slice_set state.regs 0 1; pc = state.pc })
+    (record { regs = state.regs; pc = state.pc }) other other in
+    let kept : own image (told_once state) d ≡ own image state d =
+    λ i. record {
+      bytes = data_of image d state.memory;
+      zone = zone_of state d;
+      saved = saved_sp state d;
+      calls = flat_map (kept_by d) state.cross;
+      running = idle i;
+    } in
+    ap (λ outcome. own image (after_outcome state outcome) d) (tells_is image inputs state h) ∙ kept
+
+leaves_by : (image : ImageParts) (state : MachineState) (d : ℕ) (steady_zero : Bool) →
+    data_of image d (after_outcome state (if steady_zero then Goes (told_once state) else
+    Goes (with_event state (Out state.active (first_global image))))).memory ≡ data_of image d state.memory
+leaves_by image state d true = refl
+leaves_by image state d false = refl
+
+tells_leaves_data : LeavesDataBy tells
+tells_leaves_data image inputs state d formed differ = leaves_by image state d (nat_eq (reg state 0) 0)
+
+tells_enters : EntersByEventBy tells
+tells_enters d = (
+  λ exports before event. before,
+  λ image inputs state event formed h differ emits activating.
+      let that : Adds (Out state.active 0 ∷ []) ≡ Adds (event ∷ []) = sym (seen image inputs state h) ∙ emits in
+      let same : Out state.active 0 ≡ event = cc that in
+      let never : false ≡ true = ap (activates d) same ∙ activating in
+      absurd (false≢true never),
+)
+
+-- x0 of who runs, made 1
+abbrev with_one : Running → Running
+with_one running = record { regs = slice_set running.regs 0 1; pc = running.pc }
+
+running_by : (active : Bool) (running : Running) → (if active then Some (with_one running) else None) ≡
+    option_map with_one (if active then Some running else None)
+running_by true running = refl
+running_by false running = refl
+
+not_silent : (point : Point) → IsSteadyState point.image point.state → IsSilentBy tells point.image point.inputs
+    point.state → ⊥
+not_silent point h silent =
+    let never : Adds (Out point.state.active 0 ∷ []) ≡ Adds [] =
+    sym (seen point.image point.inputs point.state h) ∙ silent in
+    cc never
+
+parts_later : (c : ℕ) (point : Point) → IsSteadyState point.image point.state →
+    own_at (later_by tells 1 point) c ≡ own point.image (told_once point.state) c
+parts_later c point h = ap (λ outcome. own point.image (after_outcome point.state outcome) c)
+    (tells_is point.image point.inputs point.state h)
+
+abbrev running_at : Point → Running
+running_at point = record { regs = point.state.regs; pc = point.state.pc }
+
+tells_follows : FollowsFromOwnBy tells
+tells_follows c one other zero h =
+    let parts = h.own_parts in
+    let running = running_by (nat_eq one.state.active c) (running_at one) ∙
+    ap (λ own_parts. option_map with_one own_parts.running) parts ∙
+    sym (running_by (nat_eq other.state.active c) (running_at other)) in
+    let later : own one.image (told_once one.state) c ≡ own other.image (told_once other.state) c =
+    λ i. record {
+      bytes = (parts i).bytes;
+      zone = (parts i).zone;
+      saved = (parts i).saved;
+      calls = (parts i).calls;
+      running = running i;
+    } in (
+      ((λ p. tt), (λ p. tt)),
+      λ p. record {
+        own_parts = parts;
+        next = seen one.image one.inputs one.state h.one_runs.steady ∙
+            ap (λ active. Adds (Out active 0 ∷ [])) (h.one_runs.active ∙ sym h.other_runs.active) ∙
+            sym (seen other.image other.inputs other.state h.other_runs.steady);
+        later_parts = parts_later c one h.one_runs.steady ∙ later ∙ sym (parts_later c other h.other_runs.steady);
+      },
+    )
+tells_follows c one other (suc steps) h = (
+  (
+    (λ p. absurd (not_silent one h.one_runs.steady p.0)),
+    (λ p. absurd (not_silent other h.other_runs.steady p.0)),
+  ),
+  λ p. absurd (not_silent one h.one_runs.steady p.0),
+)
+
+-- the laws of steps but for the one that steps keep steady states
+pub record IsolatesWhileSteady (stepping : Stepping) : Type 0 where
+  pub one_event : AddsOneBy stepping
+  pub others : LeavesOthersBy stepping
+  pub bytes : LeavesDataBy stepping
+  pub follows : FollowsFromOwnBy stepping
+  pub enters : EntersByEventBy stepping
+
+pub tells_while_steady : IsolatesWhileSteady tells
+tells_while_steady = record {
+  one_event = tells_one;
+  others = tells_leaves;
+  bytes = tells_leaves_data;
+  follows = tells_follows;
+  enters = tells_enters;
+}
+
+-- Its runs tell the byte.
 
 abbrev told : Execution
 told image inputs steps events = run_with tells image inputs events steps (start image)
