@@ -9,7 +9,7 @@ use Rattle.sc_image.proofs.Common.{subst, suc, sym, true, zero, ℕ, ◌%◌, �
 use Rattle.sc_image.proofs.Common.{◌≡◌, ◌≢◌, ◌≤◌, ◌⊎◌}
 unfoldable use Rattle.sc_image.proofs.Common.{are_data, word_at}
 use Rattle.sc_image.specs.Apart.{ActsNext, AgreeUpTo, AreApart, BeginOtherwise, GlobalsApart, GoOn}
-use Rattle.sc_image.specs.Apart.{HaveParted, HaveStopped, IsDelayed, ItsOutOfSteps, OnlySetDelays, OutOfSteps, PartAt}
+use Rattle.sc_image.specs.Apart.{HaveParted, HaveStopped, ItsOutOfSteps, OnlySetDelays, OutOfSteps, PartAt}
 use Rattle.sc_image.specs.Apart.{PartThere, SameAgree, SameBut, StopBoth, StopsApart, TracesApart, globals_in}
 use Rattle.sc_image.specs.Apart.{image_with, next_outside, one_if_out, steps_outside}
 use Rattle.sc_image.proofs.Stretches.{prefix_self}
@@ -118,16 +118,29 @@ outside_within set run (suc steps) =
 
 module _ (set : ℕ → Bool) (one other : ImageParts) (run its_run : ℕ → MachineRun) (steps its_steps : ℕ)
     (h : AreApart set one other run its_run steps its_steps) where
-  delays_by : (run steps).stop ≢ StepsOut → (its_run its_steps).stop ≡ StepsOut →
-      GoOn set run its_run h.taken h.its_taken steps its_steps → IsDelayed set (run steps) its_run steps its_steps
-  delays_by stops its_out (StopBoth same) = absurd (stops (same.stop ∙ its_out))
-  delays_by stops its_out (PartThere part) = inr (parted set one other run its_run steps its_steps h part)
-  delays_by stops its_out (OutOfSteps is_out) = absurd (stops is_out.out)
-  delays_by stops its_out (ItsOutOfSteps is_out) =
+  second_more : (run steps).stop ≢ StepsOut → (its_run its_steps).stop ≡ StepsOut →
+      GoOn set run its_run h.taken h.its_taken steps its_steps →
+      (steps_outside set its_run its_steps ≤ steps) ⊎ HaveParted set (run steps) (its_run its_steps)
+  second_more stops its_out (StopBoth same) = absurd (stops (same.stop ∙ its_out))
+  second_more stops its_out (PartThere part) = inr (parted set one other run its_run steps its_steps h part)
+  second_more stops its_out (OutOfSteps is_out) = absurd (stops is_out.out)
+  second_more stops its_out (ItsOutOfSteps is_out) =
       let same : steps_outside set run h.taken ≡ steps_outside set its_run its_steps =
       h.time ∙ ap (steps_outside set its_run) is_out.all in
       let few : steps_outside set run h.taken ≤ h.taken = outside_within set run h.taken in
       inl (omega (arith, same, few, h.within))
+
+  first_more : (run steps).stop ≡ StepsOut → (its_run its_steps).stop ≢ StepsOut →
+      GoOn set run its_run h.taken h.its_taken steps its_steps →
+      (steps_outside set run steps ≤ its_steps) ⊎ HaveParted set (run steps) (its_run its_steps)
+  first_more out its_stops (StopBoth same) = absurd (its_stops (sym same.stop ∙ out))
+  first_more out its_stops (PartThere part) = inr (parted set one other run its_run steps its_steps h part)
+  first_more out its_stops (OutOfSteps is_out) =
+      let same : steps_outside set its_run h.its_taken ≡ steps_outside set run steps =
+      sym h.time ∙ ap (steps_outside set run) is_out.all in
+      let few : steps_outside set its_run h.its_taken ≤ h.its_taken = outside_within set its_run h.its_taken in
+      inl (omega (arith, same, few, h.its_within))
+  first_more out its_stops (ItsOutOfSteps is_out) = absurd (its_stops is_out.out)
 
 pub traces_apart : TracesApart
 traces_apart set one other inputs steps its_steps events formed formed' words agree =
@@ -140,9 +153,12 @@ stops_apart set one other inputs steps its_steps events formed formed' words agr
     stops_by set one other _ _ steps its_steps h stops its_stops h.ends
 
 pub only_set_delays : OnlySetDelays
-only_set_delays set one other inputs steps its_steps events formed formed' words agree stops its_out =
+only_set_delays set one other inputs steps its_steps events formed formed' words agree =
     let h = runs_apart set one other inputs steps its_steps events formed formed' words agree in
-    delays_by set one other _ _ steps its_steps h stops its_out h.ends
+    record {
+      second = λ stops its_out. second_more set one other _ _ steps its_steps h stops its_out h.ends;
+      first = λ out its_stops. first_more set one other _ _ steps its_steps h out its_stops h.ends;
+    }
 
 -- Images that are the same outside a set.
 

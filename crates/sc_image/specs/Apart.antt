@@ -170,11 +170,14 @@ pub record HaveStopped (run its_run : MachineRun) : Type 0 where
   pub trace : run.state.trace ≡ its_run.state.trace
   pub stop : run.stop ≡ its_run.stop
 
--- The compartments outside took at most `steps` steps in a run of `its_steps` steps, or the two runs have parted.
-abbrev pub IsDelayed : (set : ℕ → Bool) → (run : MachineRun) → (its_run : ℕ → MachineRun) → (steps its_steps : ℕ) →
-    Type 0
-IsDelayed set run its_run steps its_steps =
-    (steps_outside set its_run its_steps ≤ steps) ⊎ HaveParted set run (its_run its_steps)
+-- Two runs, of at most `steps` and `its_steps` steps, of which one has stopped and the other is out of steps: in the other
+-- the compartments outside the set took at most as many steps as the one had, or the runs have parted. So all further
+-- steps of the other were the set's.
+pub record OnlySetTakesMore (set : ℕ → Bool) (run its_run : ℕ → MachineRun) (steps its_steps : ℕ) : Type 0 where
+  pub second : (run steps).stop ≢ StepsOut → (its_run its_steps).stop ≡ StepsOut →
+      (steps_outside set its_run its_steps ≤ steps) ⊎ HaveParted set (run steps) (its_run its_steps)
+  pub first : (run steps).stop ≡ StepsOut → (its_run its_steps).stop ≢ StepsOut →
+      (steps_outside set run steps ≤ its_steps) ⊎ HaveParted set (run steps) (its_run its_steps)
 
 module _ (running : Execution) where
   -- a property of the runs of two images that agree outside a set, on the same inputs with the same limit of events
@@ -201,12 +204,10 @@ module _ (running : Execution) where
       (run steps).stop ≢ StepsOut → (its_run its_steps).stop ≢ StepsOut →
       HaveStopped (run steps) (its_run its_steps) ⊎ HaveParted set (run steps) (its_run its_steps))
 
-  -- Where one run has stopped and the other is out of steps, all but at most as many of its steps as the first run had
-  -- were the set's, or the runs have parted. So only compartments of the set can delay the others.
+  -- Only compartments of the set can delay the others.
   abbrev pub OnlySetDelaysBy : Type 0
   OnlySetDelaysBy = OfRuns (λ set one other run its_run steps its_steps.
-      (run steps).stop ≢ StepsOut → (its_run its_steps).stop ≡ StepsOut →
-      IsDelayed set (run steps) its_run steps its_steps)
+      OnlySetTakesMore set run its_run steps its_steps)
 
 -- The machine of images.
 

@@ -1,12 +1,12 @@
 //! Laws of images and of the machine that runs them. Each law is the contract of a function with nothing to do, for the
 //! proofs of callers.
 
-ghost use Rattle.sc_image.specs.Apart.{GlobalsApart, OnlySetDelays, RunsApart, SameAgree, StopsApart, TracesApart};
 ghost use Rattle.sc_image.specs.Prelude.{BadOrImage, BytesNameOneImage, CallsComeBack, EmittingComposes, EntersByEvent};
 ghost use Rattle.sc_image.specs.Prelude.{FollowsFromOwn, ImageInMemory, IsIsolating, LeavesData, LeavesOthers};
 ghost use Rattle.sc_image.specs.Prelude.{LegalByWords};
 ghost use Rattle.sc_image.specs.Prelude.{RunsAreSteady, StepsByInstruction, StepsEmit, StretchesCompose};
 ghost use Rattle.sc_image.specs.Prelude.{MachineTracesAreLegal, WrittenIsRead, step};
+ghost use Rattle.sc_image.specs.Prelude.{GlobalsApart, OnlySetDelays, RunsApart, SameAgree, StopsApart, TracesApart};
 
 /// Bytes are those of one image at most.
 pub fn one_image()
