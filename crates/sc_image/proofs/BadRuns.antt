@@ -1,6 +1,6 @@
 -- Three ways to run an image by which a compartment learns what belongs to another one, or may learn it. The laws of
 -- runs or of steps refuse each of them.
-use Rattle.std.proofs.Common.{Bool, List, None, Option, Some, [], ap, arith, codes, eq-eqb, eqb-true, false, flat_map}
+use Rattle.std.proofs.Common.{Bool, List, None, Some, [], ap, arith, codes, eq-eqb, eqb-true, false, flat_map}
 use Rattle.std.proofs.Common.{if◌then◌else◌, inl, inr, is_some}
 use Rattle.std.proofs.Common.{length, nat_eq, refl, slice_get, slice_index, slice_index_or, slice_set, subst, suc, sym}
 use Rattle.std.proofs.Common.{true, zero, ℕ, ◌++◌, ◌<◌, ◌^◌, ◌∙◌, ◌∷◌, ◌≡◌, ◌≢◌, ◌⊎◌}

@@ -18,8 +18,8 @@ use Rattle.sc_image.specs.Isolation.{AgreeFor}
 -- The two images. A set of compartments is a test of their numbers.
 
 -- Two images that agree in what a run asks of the compartments outside a set. The compartments inside the set may
--- differ in everything but the addresses at which their exports begin, and the number of words that those exports take
--- which a compartment outside may call.
+-- differ in everything but two things: the addresses at which their exports begin, and the number of words that an
+-- export takes if a compartment outside may call it.
 pub record AgreeBut (set : ℕ → Bool) (one other : ImageParts) : Type 0 where
   pub count : length one.comps ≡ length other.comps
   pub main : one.main ≡ other.main
@@ -170,9 +170,9 @@ pub record HaveStopped (run its_run : MachineRun) : Type 0 where
   pub trace : run.state.trace ≡ its_run.state.trace
   pub stop : run.stop ≡ its_run.stop
 
--- Two runs, of at most `steps` and `its_steps` steps, of which one has stopped and the other is out of steps: in the other
--- the compartments outside the set took at most as many steps as the one had, or the runs have parted. So all further
--- steps of the other were the set's.
+-- Two runs, of at most `steps` and `its_steps` steps, of which one has stopped and the other is out of steps. In the
+-- run that is out of steps, the compartments outside the set took at most as many steps as the run that has stopped was
+-- given, or the runs have parted. All further steps were those of compartments of the set.
 pub record OnlySetTakesMore (set : ℕ → Bool) (run its_run : ℕ → MachineRun) (steps its_steps : ℕ) : Type 0 where
   pub second : (run steps).stop ≢ StepsOut → (its_run its_steps).stop ≡ StepsOut →
       (steps_outside set its_run its_steps ≤ steps) ⊎ HaveParted set (run steps) (its_run its_steps)
