@@ -13,7 +13,7 @@ use Rattle.std.specs.Prelude.{drop}
 unfoldable use Rattle.sc_base.specs.Prelude.{is_name}
 use Rattle.sc_base.specs.Word.{IsWord}
 use Rattle.sc_event.specs.Standing.{performer}
-use Rattle.sc_image.specs.Common.{Event, Out, StepsOut}
+use Rattle.sc_image.specs.Common.{Event, Out}
 use Rattle.sc_image.specs.declared.parts.CompPart.{CompPart}
 use Rattle.sc_image.specs.declared.parts.ImageParts.{ImageParts}
 use Rattle.sc_image.specs.Apart.{AgreeBut, AgreeUpTo, Execution, RunsApartBy, TracesApartBy}
@@ -24,7 +24,8 @@ use Rattle.sc_image.specs.Isolation.{IsSilentBy, KeepsSteadyBy, LeavesDataBy, Le
 use Rattle.sc_image.specs.Isolation.{activates, after_outcome, later_by, observation_of, own_at}
 use Rattle.sc_image.specs.Layout.{initial_globals}
 unfoldable use Rattle.sc_image.specs.Layout.{word_at}
-use Rattle.sc_image.specs.Machine.{MachineRun, after, run, stops_or}
+use Rattle.sc_image.specs.AnyMachine.{run_with}
+use Rattle.sc_image.specs.Machine.{run}
 unfoldable use Rattle.sc_image.specs.Machine.{run_by, stopped}
 use Rattle.sc_image.specs.Own.{Own, Running, data_of, kept_by, own}
 use Rattle.sc_image.specs.State.{MachineState, reg, saved_sp, start, with_event, with_reg, zone_of}
@@ -160,13 +161,6 @@ agree = same_agree (nat_eq 1) (secret 0) (secret 1) (record {
 -- the first byte of the globals of `N`
 abbrev first_global : ImageParts → ℕ
 first_global image = slice_index (initial_globals image 1) 0
-
--- A run by any machine: steps from a state on, until something stops it.
-abbrev run_with : Stepping → ImageParts → List ℕ → (events steps : ℕ) → MachineState → MachineRun
-run_with stepping image inputs events zero state =
-    stops_or (stopped events state.trace) state (record { state = state; stop = StepsOut })
-run_with stepping image inputs events (suc steps) state = stops_or (stopped events state.trace) state
-    (after state.pc state (stepping image inputs state) (run_with stepping image inputs events steps))
 
 -- A machine that outputs 0 in a first step and makes x0 1, and that outputs the byte where x0 isn't 0. In a steady
 -- state, where x0 is 0, it tells nothing. So laws that speak of steady states let it pass, unless one says that its

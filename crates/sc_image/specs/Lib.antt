@@ -19,3 +19,4 @@ pub mod Reading
 pub mod RoundTrip
 pub mod Interfaces
 pub mod Apart
+pub mod AnyMachine

@@ -1,6 +1,7 @@
 //! Laws of images and of the machine that runs them. Each law is the contract of a function with nothing to do, for the
 //! proofs of callers.
 
+ghost use Rattle.sc_image.specs.AnyMachine.{IsolatingRunsApart};
 ghost use Rattle.sc_image.specs.Prelude.{BadOrImage, BytesNameOneImage, CallsComeBack, EmittingComposes, EntersByEvent};
 ghost use Rattle.sc_image.specs.Prelude.{FollowsFromOwn, ImageInMemory, IsIsolating, LeavesData, LeavesOthers};
 ghost use Rattle.sc_image.specs.Prelude.{LegalByWords};
@@ -82,7 +83,13 @@ pub fn runs_apart()
     ensures { RunsApart }
 {}
 
-/// So one of their traces is a prefix of the other, or they go on with different events of one compartment of the set.
+/// So do the runs of any machine that isolates the compartments of an image.
+#[tactic(auto, using(crate::proofs::ApartRuns::isolating_runs_apart))]
+pub fn isolating_runs_apart()
+    ensures { IsolatingRunsApart }
+{}
+
+/// One of the traces of two such runs is a prefix of the other, or they go on with different events of one compartment of the set.
 #[tactic(auto, using(crate::proofs::ApartLaws::traces_apart))]
 pub fn traces_apart()
     ensures { TracesApart }
