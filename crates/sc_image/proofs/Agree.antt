@@ -27,7 +27,7 @@ module _ (c : ℕ) (image image' : ImageParts) (agree : AgreeFor c image image')
   }
 
 -- whether the compartment has a heap is seen at the first address of its zone
-heap_agree : (c : ℕ) (image image' : ImageParts) → IsWellFormed image → IsWellFormed image' →
+pub heap_agree : (c : ℕ) (image image' : ImageParts) → IsWellFormed image → IsWellFormed image' →
     AgreeFor c image image' → has_heap image c ≡ has_heap image' c
 heap_agree c image image' formed formed' agree =
     sym (zone_owned image c formed) ∙ agree.owned (zone_start c) 1 ∙ zone_owned image' c formed'

@@ -62,7 +62,7 @@ other_part = record {
   globals = [];
 }
 
-abbrev two : ImageParts
+abbrev pub two : ImageParts
 two = record { main = 0; entry = 16777216; comps = main_part ∷ other_part ∷ [] }
 
 main_is : IsComp two 0 main_part
@@ -126,7 +126,7 @@ names_differ (suc i) zero d before within = λ same. omega (arith, before)
 names_differ (suc i) (suc zero) d before within = λ same. omega (arith, before)
 names_differ (suc i) (suc (suc j)) d before within = λ same. omega (arith, within)
 
-formed : IsWellFormed two
+pub formed : IsWellFormed two
 formed = record {
   few_comps = omega arith;
   main = omega arith;
@@ -156,13 +156,13 @@ standing_with words pc mine others memory trace = record {
 abbrev standing : (pc target other : ℕ) → (memory : ByteMemory) → List Event → MachineState
 standing pc target other memory trace = standing_with (regs target other) pc [] [] memory trace
 
-abbrev empty : ByteMemory
+abbrev pub empty : ByteMemory
 empty = λ address. None
 
 abbrev resting : List Event → MachineState
 resting trace = standing 16777216 0 0 empty trace
 
-abbrev calling : (other : ℕ) → ByteMemory → MachineState
+abbrev pub calling : (other : ℕ) → ByteMemory → MachineState
 calling other memory = standing 16777220 17825792 other memory []
 
 rests_at : word_at two 0 16777216 ≡ Some 19
@@ -195,7 +195,7 @@ calls_so : (other : ℕ) (memory : ByteMemory) → execute two [] (calling other
 unfolding execute_by word_at
 calls_so other memory = refl
 
-calls : (other : ℕ) (memory : ByteMemory) →
+pub calls : (other : ℕ) (memory : ByteMemory) →
     step two [] (calling other memory) ≡ Goes (on_call (calling other memory) 1 0 0 17825792)
 calls other memory =
     step_executes two [] (calling other memory) 164071 (Jalr 1 5 (pos 0)) calls_at calls_by ∙ calls_so other memory
@@ -243,18 +243,18 @@ steady_with words pc mine others trace count are none here calls inputs = record
   input = inputs;
 }
 
-steady : (pc target other : ℕ) (trace : List Event) → IsWord pc → IsWord target → IsWord other →
+pub steady : (pc target other : ℕ) (trace : List Event) → IsWord pc → IsWord target → IsWord other →
     [] ≡ open_calls trace → 0 ≡ inputs_in trace → IsSteadyState two (standing pc target other empty trace)
 steady pc target other trace here low small calls inputs =
     steady_with _ pc [] [] trace refl (regs_words target other low small) refl here calls inputs
 
 -- A machine that goes on from the state after each step.
 
-abbrev gone_on : (MachineState → MachineState) → Outcome → Outcome
+abbrev pub gone_on : (MachineState → MachineState) → Outcome → Outcome
 gone_on more (Goes next) = Goes (more next)
 gone_on more (Traps reason) = Traps reason
 
-abbrev spoilt : (more : ImageParts → (before after : MachineState) → MachineState) → Stepping
+abbrev pub spoilt : (more : ImageParts → (before after : MachineState) → MachineState) → Stepping
 spoilt more image inputs state = gone_on (more image state) (step image inputs state)
 
 -- What x5 of the active compartment is.

@@ -14,12 +14,10 @@ use Rattle.sc_image.proofs.Common.{◌==◌, ◌∙◌, ◌∷◌, ◌≡◌, �
 use Rattle.sc_image.proofs.Events.{no_event, that_event}
 use Rattle.sc_image.proofs.Cases.{crossing_to, step_of}
 use Rattle.sc_image.proofs.Words.{comp_found, no_export}
-use Rattle.sc_image.proofs.Isolation.{follows_from_own, leaves_data, leaves_others}
-use Rattle.sc_image.specs.Isolation.{IsIsolating}
 use Rattle.sc_image.specs.Step.{step}
 
 -- The words of `count` registers from r on, with 0 in each that isn't kept.
-abbrev chosen : (keeps : ℕ → Bool) (word : ℕ → ℕ) (r count : ℕ) → List ℕ
+abbrev pub chosen : (keeps : ℕ → Bool) (word : ℕ → ℕ) (r count : ℕ) → List ℕ
 chosen keeps word r zero = []
 chosen keeps word r (suc count) = (if keeps r then word r else 0) ∷ chosen keeps word (suc r) count
 
@@ -54,7 +52,7 @@ argument_is params i regs is =
     let at : 10 + (i - 10) ≡ i = omega arith in
     rw (get_or-take params (drop 10 regs) (i - 10) 0 (omega (arith, place)), get_or-drop, at) refl
 
-abbrev regs_by : (params : ℕ) → List ℕ → List ℕ
+abbrev pub regs_by : (params : ℕ) → List ℕ → List ℕ
 regs_by params args = chosen (is_argument params) (λ r. get_or args (r - 10) 0) 0 32
 
 arguments_same : (params : ℕ) (regs : List ℕ) → length regs ≡ 32 →
@@ -63,7 +61,7 @@ arguments_same params regs same = all_kept (is_argument params) _ regs same (λ 
 
 -- the registers after a return
 
-abbrev result_of : Option ℕ → List ℕ
+abbrev pub result_of : Option ℕ → List ℕ
 result_of value = chosen (is_result (is_some value)) (λ r. unwrap_or value 0) 0 32
 
 result_same : (result : Bool) (regs : List ℕ) → length regs ≡ 32 →
@@ -83,13 +81,13 @@ few_params image d index formed = ⊎_elim (λ at.
     ((formed.comps d found.0 found.1).exports index at.0 within).params) (λ none. rw none.1 (omega arith))
     (slice_get_cases (exported_by image d) index).1
 
-abbrev entry_of : List ExportPart → (index : ℕ) → ℕ
+abbrev pub entry_of : List ExportPart → (index : ℕ) → ℕ
 entry_of exports index = option_map_or (λ export. export.entry) (slice_get exports index) 0
 
-abbrev words_of : List ExportPart → (index : ℕ) → ℕ
+abbrev pub words_of : List ExportPart → (index : ℕ) → ℕ
 words_of exports index = option_map_or (λ export. export.params) (slice_get exports index) 0
 
-entry_is : (image : ImageParts) (c target index : ℕ) → entered_export image c target ≡ Some index →
+pub entry_is : (image : ImageParts) (c target index : ℕ) → entered_export image c target ≡ Some index →
     entry_of (exported_by image c) index ≡ target
 entry_is image c target index at =
     let first = position-Some (λ (export : ExportPart). export.entry == target)
@@ -98,7 +96,7 @@ entry_is image c target index at =
 
 -- What is entered.
 
-abbrev by_return : Own → Option ℕ → List Kept → Own
+abbrev pub by_return : Own → Option ℕ → List Kept → Own
 by_return before value (Waits pc sp_then ∷ rest) = record {
   bytes = before.bytes;
   zone = before.zone;
@@ -108,7 +106,7 @@ by_return before value (Waits pc sp_then ∷ rest) = record {
 }
 by_return before value _ = before
 
-abbrev entered : List ExportPart → Own → Event → Own
+abbrev pub entered : List ExportPart → Own → Event → Own
 entered exports before (Call from to index args) = record {
   bytes = before.bytes;
   zone = before.zone;
@@ -256,8 +254,3 @@ enters_by_event d = (
       let after = step_activates image inputs state d formed event activating emits in
       step_enters image inputs state d formed h (λ e. differ (sym e)) after.0 event after.1,
 )
-
--- all laws together
-pub isolates : IsIsolating step
-isolates =
-    record { others = leaves_others; bytes = leaves_data; follows = follows_from_own; enters = enters_by_event }

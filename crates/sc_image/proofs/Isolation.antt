@@ -402,7 +402,7 @@ module _ (image image' : ImageParts) (inputs inputs' : List ℕ) (formed : IsWel
 
 -- Any two points.
 
-running_of : (c active : ℕ) (running : Running) → active ≡ c →
+pub running_of : (c active : ℕ) (running : Running) → active ≡ c →
     (if nat_eq active c then Some running else None) ≡ Some running
 running_of c active running same = rw (eq-eqb active c same) refl
 

@@ -12,7 +12,13 @@ pub mod Agree
 pub mod Events
 pub mod Isolation
 pub mod Enters
-mod BadMachines
+pub mod StepKinds
+pub mod ApartSteps
+pub mod ApartStart
+pub mod ApartRuns
+pub mod ApartLaws
+pub mod BadMachines
+mod BadRuns
 pub mod Returning
 pub mod FileFields
 pub mod Traces

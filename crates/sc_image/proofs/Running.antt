@@ -1,6 +1,6 @@
 -- What a step is, runs and stretches of runs, and what stands in memory at the start.
 use Rattle.sc_image.proofs.Common.{BadJump, Bool, ByteMemory, CompPart, Ended, Event, EventsOut, Goes, Illegal}
-use Rattle.sc_image.proofs.Common.{ImageInMemory, ImageParts, Instr, IsAt, IsWellFormed, IsWord, List, MachineRun}
+use Rattle.sc_image.proofs.Common.{ImageInMemory, ImageParts, Instr, IsAt, IsWellFormed, IsWord, List}
 use Rattle.sc_image.proofs.Common.{MachineState, None, Option, Outcome, OutcomeOf, Protection, Region, RunOf, Some}
 use Rattle.sc_image.proofs.Common.{StepsByInstruction, StepsOut, Stop, Trap, TrapReason, Traps, Walks, [], after}
 use Rattle.sc_image.proofs.Common.{after_outcome, and_from, ap, by_owner, run_by}

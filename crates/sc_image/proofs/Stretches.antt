@@ -18,10 +18,10 @@ use Rattle.sc_image.proofs.Reached.{called_other}
 
 -- A step adds events at the end of the trace.
 
-prefix_self : (xs : List Event) → IsPrefix xs xs
+pub prefix_self : (xs : List Event) → IsPrefix xs xs
 prefix_self xs = record { more = []; is = sym (append-nil xs) }
 
-prefix_on : (xs ys zs : List Event) → IsPrefix xs ys → IsPrefix ys zs → IsPrefix xs zs
+pub prefix_on : (xs ys zs : List Event) → IsPrefix xs ys → IsPrefix ys zs → IsPrefix xs zs
 prefix_on xs ys zs p q = record {
   more = p.more ++ q.more;
   is = q.is ∙ ap (λ t. t ++ q.more) p.is ∙ append_assoc xs p.more q.more;

@@ -1,7 +1,9 @@
 -- What isolates the compartments of an image: laws of the machine's steps.
 use Rattle.sc_image.specs.Common.{Call, End, Entry, Event, In, Out, Ret, TrapReason}
-use Rattle.std.specs.Prelude.{◌≡◌, ◌≢◌, ◌↔◌, ℕ, zero, suc, Bool, true, false, ◌==◌, List, [], ◌∷◌, length, drop, All}
+use Rattle.std.specs.Prelude.{◌≡◌, ◌≢◌, ◌↔◌, ◌⊎◌, ℕ, zero, suc, Bool, true, false, ◌==◌, List, [], ◌∷◌, ◌++◌}
+use Rattle.std.specs.Prelude.{length, drop, All}
 use Rattle.std.specs.List.{list_any}
+use Rattle.sc_event.specs.Standing.{performer}
 use Rattle.sc_image.specs.declared.parts.ExportPart.{ExportPart}
 use Rattle.sc_image.specs.declared.parts.ImageParts.{ImageParts}
 use Rattle.sc_image.specs.Calls.{entered_export, exported_by, has_result, may_call_export, may_input, may_output}
@@ -41,6 +43,26 @@ activates d (Ret from to value) = to == d
 activates d (Out comp value) = false
 activates d (In comp value) = false
 activates d (End comp value) = false
+
+-- the compartment that is active after an event
+abbrev pub active_after : Event → ℕ
+active_after (Call from to index args) = to
+active_after (Ret from to value) = to
+active_after (Out comp value) = comp
+active_after (In comp value) = comp
+active_after (End comp value) = comp
+
+-- a step that changes neither the trace nor which compartment is active
+pub record IsQuiet (state next : MachineState) : Type 0 where
+  pub trace : next.trace ≡ state.trace
+  pub active : next.active ≡ state.active
+
+-- a step that adds one event: the active compartment performs it, and the event says which compartment is active next
+pub record IsLoud (state next : MachineState) : Type 0 where
+  pub event : Event
+  pub trace : next.trace ≡ state.trace ++ event ∷ []
+  pub by : performer event ≡ state.active
+  pub active : next.active ≡ active_after event
 
 -- a step emits an event that makes d active
 abbrev pub emits_entry : ℕ → Observation → Bool
@@ -174,8 +196,23 @@ module _ (stepping : Stepping) where
       observation_by image inputs state ≡ Adds (event ∷ []) → activates d event ≡ true →
       own image (after_by image inputs state) d ≡ entered (exported_by image d) (own image state d) event)
 
+  -- A step from a steady state leads to a steady state.
+  abbrev pub KeepsSteadyBy : Type 0
+  KeepsSteadyBy =
+      (image : ImageParts) (inputs : List ℕ) (state : MachineState) → IsWellFormed image → All IsWord inputs →
+      IsSteadyState image state → IsSteadyState image (after_by image inputs state)
+
+  -- A step adds at most one event. The event is one of the active compartment, and it says which compartment is active
+  -- next. A step that adds none leaves the same compartment active.
+  abbrev pub AddsOneBy : Type 0
+  AddsOneBy =
+      (image : ImageParts) (inputs : List ℕ) (state next : MachineState) → IsWellFormed image →
+      IsSteadyState image state → stepping image inputs state ≡ Goes next → IsQuiet state next ⊎ IsLoud state next
+
   -- such a machine isolates the compartments of an image
   pub record IsIsolating : Type 0 where
+    pub steady : KeepsSteadyBy
+    pub one_event : AddsOneBy
     pub others : LeavesOthersBy
     pub bytes : LeavesDataBy
     pub follows : FollowsFromOwnBy

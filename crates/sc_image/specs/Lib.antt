@@ -20,3 +20,5 @@ pub mod Given
 pub mod Reading
 pub mod RoundTrip
 pub mod Interfaces
+pub mod Apart
+pub mod AnyMachine

@@ -4,6 +4,9 @@ pub use Rattle.sc_fields.specs.Prelude.{bit, code_bytes, globals_bytes, import_b
 pub use Rattle.sc_fields.specs.Prelude.{name_bytes}
 pub use Rattle.sc_fields.specs.declared.import.ImportPart.{ImportPart}
 pub use Rattle.sc_image.specs.Alike.{is_same_export, is_same_flag, is_same_inside, is_same_outside}
+pub use Rattle.sc_image.specs.Apart.{AgreeBut, AgreeUpTo, AlikeBut, AreApart, GlobalsApart, HaveParted, HaveStopped}
+pub use Rattle.sc_image.specs.Apart.{OnlySetDelays, PartAt, RunsApart, SameAgree, SameBut, StopsApart, TracesApart}
+pub use Rattle.sc_image.specs.Apart.{image_with, steps_outside}
 pub use Rattle.sc_image.specs.Bytes.{FitsItsFields, bytes_in_version, comp_bytes, export_bytes, exports_bytes, flags}
 pub use Rattle.sc_image.specs.Bytes.{image_bytes, latest_version, parts_bytes}
 pub use Rattle.sc_image.specs.Calls.{entered_export, exported_by, has_result, imported_by, may_call_export, may_input}

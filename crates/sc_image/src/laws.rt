@@ -2,11 +2,13 @@
 //! proofs of callers.
 
 ghost use Rattle.sc_image.specs.Prelude.{BadOrBegins, BadPartIsBad, BytesBeginWithOne, PartIsWhole};
+ghost use Rattle.sc_image.specs.AnyMachine.{IsolatingRunsApart};
 ghost use Rattle.sc_image.specs.Prelude.{BadOrImage, BytesNameOneImage, CallsComeBack, EmittingComposes, EntersByEvent};
 ghost use Rattle.sc_image.specs.Prelude.{FollowsFromOwn, ImageInMemory, IsIsolating, LeavesData, LeavesOthers};
 ghost use Rattle.sc_image.specs.Prelude.{LegalByWords};
 ghost use Rattle.sc_image.specs.Prelude.{RunsAreSteady, StepsByInstruction, StepsEmit, StretchesCompose};
 ghost use Rattle.sc_image.specs.Prelude.{MachineTracesAreLegal, WrittenIsRead, step};
+ghost use Rattle.sc_image.specs.Prelude.{GlobalsApart, OnlySetDelays, RunsApart, SameAgree, StopsApart, TracesApart};
 
 /// Bytes are those of one image at most.
 pub fn one_image()
@@ -89,9 +91,52 @@ pub fn enters_by_event()
 {}
 
 /// So the machine is one that isolates the compartments of an image.
-#[tactic(auto, using(crate::proofs::Enters::isolates))]
+#[tactic(auto, using(crate::proofs::StepKinds::isolates))]
 pub fn isolates()
     ensures { IsIsolating step }
+{}
+
+/// The runs of two images that agree outside a set of compartments go on alike there, after as many steps of the
+/// compartments outside in both, until a compartment of the set performs another event or traps.
+#[tactic(auto, using(crate::proofs::ApartRuns::runs_apart))]
+pub fn runs_apart()
+    ensures { RunsApart }
+{}
+
+/// So do the runs of any machine that isolates the compartments of an image.
+#[tactic(auto, using(crate::proofs::ApartRuns::isolating_runs_apart))]
+pub fn isolating_runs_apart()
+    ensures { IsolatingRunsApart }
+{}
+
+/// One of the traces of two such runs is a prefix of the other, or they go on with different events of one compartment of the set.
+#[tactic(auto, using(crate::proofs::ApartLaws::traces_apart))]
+pub fn traces_apart()
+    ensures { TracesApart }
+{}
+
+/// Where neither run is out of steps, both stop for the same cause with the same trace, or they part in the set.
+#[tactic(auto, using(crate::proofs::ApartLaws::stops_apart))]
+pub fn stops_apart()
+    ensures { StopsApart }
+{}
+
+/// Only compartments of the set can delay the others.
+#[tactic(auto, using(crate::proofs::ApartLaws::only_set_delays))]
+pub fn only_set_delays()
+    ensures { OnlySetDelays }
+{}
+
+/// Images that are the same outside a set agree there.
+#[tactic(auto, using(crate::proofs::ApartLaws::same_agree))]
+pub fn same_agree()
+    ensures { SameAgree }
+{}
+
+/// The runs of one image with two contents of a compartment's globals go on alike outside this compartment.
+#[tactic(auto, using(crate::proofs::ApartLaws::globals_apart))]
+pub fn globals_apart()
+    ensures { GlobalsApart }
 {}
 
 /// A call keeps the caller's stack pointer. The step that closes the call is a return of the callee,

@@ -19,9 +19,10 @@ pub use image::Image;
 pub use interfaces::image_interfaces;
 pub use laws::{
     bad_or_begins, bad_or_image, calls_come_back, emitting_composes, enters_by_event,
-    follows_from_own, image_in_memory, isolates, leaves_data, leaves_others, legal_by_words,
-    one_beginning, one_image, part_is_whole, runs_are_steady, steps_by_instruction, steps_emit,
-    stretches_compose, traces_are_legal, written_is_read,
+    follows_from_own, globals_apart, image_in_memory, isolates, isolating_runs_apart, leaves_data,
+    leaves_others, legal_by_words, one_beginning, one_image, only_set_delays, part_is_whole,
+    runs_apart, runs_are_steady, same_agree, steps_by_instruction, steps_emit, stops_apart,
+    stretches_compose, traces_apart, traces_are_legal, written_is_read,
 };
 pub use parts::{CompPart, CompParts, ExportPart, ExportParts, ImageParts};
 pub use reading::{read_image, read_image_part};
