@@ -1,6 +1,6 @@
 use crate::Cause;
 use sc_base::{Stop, Text};
-use sc_event::{CompId, Trace};
+use sc_event::{CompId, CompIds, Trace};
 use sqlite_items::Items;
 
 /// A compartment that was blamed after `after` events of the trace, why, and at which line of its section; and the text
@@ -17,10 +17,13 @@ pub struct Link {
 /// Links in the order of their blames.
 pub type Links = Items<Link>;
 
-/// The machine's trace, why it stopped, and the chain of replacements that accounts for it.
+/// The machine's trace, why it stopped, the compartments whose code isn't the program's, and the chain of replacements
+/// that accounts for it.
 #[derive(Drop)]
 pub struct Explanation {
     pub trace: Trace,
     pub stop: Stop,
+    /// The given compartments: they may have any code, and so they count as compromised from the first event on.
+    pub given: CompIds,
     pub links: Links,
 }

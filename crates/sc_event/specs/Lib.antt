@@ -4,4 +4,5 @@ pub mod Line
 pub mod Lookup
 pub mod OpenCall
 pub mod Part
+pub mod Sets
 pub mod Standing

@@ -6,5 +6,6 @@ pub use Rattle.sc_event.specs.Line.{comp_name, event_line, export_name, line, sp
 pub use Rattle.sc_event.specs.Lookup.{IsKnown, comp_at, export_at}
 pub use Rattle.sc_event.specs.OpenCall.{HasEntered, StandsBy, here_or, open_after, open_call, returned_before}
 pub use Rattle.sc_event.specs.Part.{action_of, count_of, part, rows_from}
+pub use Rattle.sc_event.specs.Sets.{is_listed}
 pub use Rattle.sc_event.specs.Standing.{Activation, Standing, at_start, performer, resumed, stands_after}
 pub use Rattle.sc_event.specs.Standing.{stands_after_all}

@@ -1,7 +1,11 @@
 ghost use Rattle.sc_base.specs.Prelude.{most_compartments};
 ghost use Rattle.std.specs.Prelude.{◌≡◌, ◌<◌, IsSome, IfSome, ◌↔◌};
 
+use sqlite_items::Items;
 use std::marker::Model;
+
+/// Compartments in the order of their numbers. Contracts see the list of the numbers.
+pub type CompIds = Items<CompId>;
 
 /// The number of a compartment, 0 to 31, in the order of the sections. Contracts see the number.
 #[derive(Clone, Copy, Debug, PartialEq, Eq)]

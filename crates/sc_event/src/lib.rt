@@ -11,7 +11,7 @@ mod params;
 mod row;
 
 pub use args::Args;
-pub use comp_id::CompId;
+pub use comp_id::{CompId, CompIds};
 pub use event::{Event, Trace};
 pub use interface::{Import, Imports, Interface, InterfaceList, Interfaces, Proto, Protos, Scalar};
 pub use legality::legal;
