@@ -1,6 +1,7 @@
 // Images, the cross stack, heaps, and machines.
 
 mod gates;
+mod given;
 mod heaps;
 mod hostile;
 mod images;

@@ -1,5 +1,6 @@
 -- The names that several proofs of this crate cite, passed on from one place. Declares nothing.
 pub use Rattle.std.proofs.Common.{All, Bool, Err, IsSome, List, None, Ok, Option, Result, Some, [], ap, append-nil}
+pub use Rattle.std.proofs.Common.{AllPairs}
 pub use Rattle.std.proofs.Common.{append_assoc, ap₂, arith, codes, cond, drop, drop_at, eq-eqb, eqb-true, false}
 pub use Rattle.std.proofs.Common.{flat_map, get_or, get_or-drop, get_or-set_other, get_or-set_same, get_or-take}
 pub use Rattle.std.proofs.Common.{if◌then◌else◌, inl, inr, is_some, le-leb, le-ltb, leb-true, length, length-append}
@@ -27,12 +28,13 @@ pub use Rattle.std.proofs.lemmas.Option.{slice_get_past, slice_get_within}
 pub use Rattle.std.proofs.lemmas.Result.{err_from_is_err_and}
 pub use Rattle.std.specs.Bool.{Decides}
 pub use Rattle.std.specs.Cmp.{IsEquivalence, unsigned_Decides}
-pub use Rattle.std.specs.Cmp.Lexicographic.{bytes_decides, same_text}
-pub use Rattle.std.specs.List.{AllByRecursion, list_all, list_any, range_with_len, slice_get}
+pub use Rattle.std.specs.Cmp.Lexicographic.{bytes_decides, pointwise, same_text}
+pub use Rattle.std.specs.List.{AllByRecursion, filter, list_all, list_any, range_with_len, slice_get}
 pub use Rattle.std.specs.Option.{IsSomeAnd, option_and_then, option_map, option_map_or}
 pub use Rattle.sc_base.proofs.Lists.{all_by, is_there}
 pub use Rattle.sc_base.specs.Prelude.{IsPrefix, is_between, is_name_byte, is_nondigit}
 unfoldable pub use Rattle.sc_base.specs.Prelude.{is_name}
+pub use Rattle.sc_event.specs.Prelude.{is_listed}
 pub use Rattle.sc_event.specs.declared.interface.Scalar.TheVariants.{Int}
 pub use Rattle.sc_word.proofs.Below.{add_word-lt, div_word-lt, divu_word-lt, mul_word-lt, mulh_word-lt, mulhsu_word-lt}
 pub use Rattle.sc_word.proofs.Below.{mulhu_word-lt, rem_word-lt, remu_word-lt, sll_word-lt, slt_word-lt, sltu_word-lt}
@@ -77,6 +79,8 @@ pub use Rattle.sc_image.specs.Prelude.{OutcomeOf, Protection, RunOf, plain, run}
 pub use Rattle.sc_image.specs.Prelude.{stack_tops, start, step, stops_or, store_by, store_size, stretch, then_on}
 pub use Rattle.sc_image.specs.Prelude.{unless_trap, unless_stopped, walk, with_pc, with_stored, without_latest}
 pub use Rattle.sc_image.specs.Prelude.{word_interface, word_interfaces, word_proto, written}
+pub use Rattle.sc_image.specs.Prelude.{AreGiven, IsButFor, differing, is_kept, is_same_export, is_same_flag}
+pub use Rattle.sc_image.specs.Prelude.{is_same_inside, is_same_inside_at, is_same_outside, is_seen_alike, seen_of}
 pub use Rattle.sc_zone.specs.declared.span.Span.{Span}
 unfoldable pub use Rattle.sc_image.specs.Prelude.{are_data, execute_by, image_in, parts_at, read_comp, read_exports}
 unfoldable pub use Rattle.sc_image.specs.Prelude.{run_by, start_memory, step_by, stopped, word_at}

@@ -3,6 +3,8 @@ mod ReadingRows
 pub mod Running
 pub mod Whole
 pub mod Words
+pub mod Alike
+mod Differing
 pub mod Memory
 pub mod Cases
 pub mod Reached

@@ -15,6 +15,8 @@ pub mod Returning
 pub mod Walks
 pub mod Emitting
 pub mod Rules
+pub mod Alike
+pub mod Given
 pub mod Reading
 pub mod RoundTrip
 pub mod Interfaces

@@ -3,6 +3,7 @@ pub use Rattle.sc_base.specs.Word.{IsWord}
 pub use Rattle.sc_fields.specs.Prelude.{bit, code_bytes, globals_bytes, import_bytes, imports_bytes, is_same_name}
 pub use Rattle.sc_fields.specs.Prelude.{name_bytes}
 pub use Rattle.sc_fields.specs.declared.import.ImportPart.{ImportPart}
+pub use Rattle.sc_image.specs.Alike.{is_same_export, is_same_flag, is_same_inside, is_same_outside}
 pub use Rattle.sc_image.specs.Bytes.{FitsItsFields, bytes_in_version, comp_bytes, export_bytes, exports_bytes, flags}
 pub use Rattle.sc_image.specs.Bytes.{image_bytes, latest_version, parts_bytes}
 pub use Rattle.sc_image.specs.Calls.{entered_export, exported_by, has_result, imported_by, may_call_export, may_input}
@@ -12,6 +13,7 @@ pub use Rattle.sc_image.specs.Cross.{on_alloc, on_free, on_input, starts_block, 
 pub use Rattle.sc_image.specs.Cross.{input_at, is_argument, is_result, kept, kept_from, on_output, on_return}
 pub use Rattle.sc_image.specs.Cross.{crossing_to, on_entry, on_return_to}
 pub use Rattle.sc_image.specs.Emitting.{Emits, EmittingComposes, IsCall, StepsEmit}
+pub use Rattle.sc_image.specs.Given.{AreGiven, IsButFor, differing, is_kept, is_same_inside_at, is_seen_alike, seen_of}
 pub use Rattle.sc_image.specs.Interfaces.{LegalByWords, MachineTracesAreLegal, image_import, image_interface}
 pub use Rattle.sc_image.specs.Interfaces.{image_interfaces, image_proto, word_interface, word_interfaces, word_proto}
 pub use Rattle.sc_image.specs.Isolation.{Adds, AgreeFor, EntersByEvent, FollowsFromOwn, IsIsolating, IsReached}

@@ -2,6 +2,7 @@
 #![tactic(auto)]
 
 mod fault;
+mod given;
 mod image;
 mod interfaces;
 mod laws;
@@ -9,9 +10,11 @@ pub mod layout;
 mod parts;
 mod reading;
 mod rules;
+mod same;
 mod writing;
 
 pub use fault::{BadImage, ImageFault};
+pub use given::given_in;
 pub use image::Image;
 pub use interfaces::image_interfaces;
 pub use laws::{
@@ -23,5 +26,6 @@ pub use laws::{
 pub use parts::{CompPart, CompParts, ExportPart, ExportParts, ImageParts};
 pub use reading::read_image;
 pub use rules::are_distinct_imports;
+pub use same::{are_same_imports, is_same_flag};
 pub use sc_fields::{ImportPart, ImportParts};
 pub use writing::write_image;

@@ -1,50 +1,8 @@
--- Whether two objects say the same of the program, as it is found out place by place, and what it says.
-use Rattle.sc_object.proofs.Common.{subst, ℕ, Bool, Face, FaceExport, ImportPart, List, ObjectParts, [], and_from}
-use Rattle.sc_object.proofs.Common.{and_parts, ap, ap₂, bytes_decides, eq-eqb, eqb-true, false, is_same_export}
-use Rattle.sc_object.proofs.Common.{is_same_face, is_same_flag, is_same_import, is_same_name, is_same_program, length}
-use Rattle.sc_object.proofs.Common.{pointwise, refl, suc, true, ◌&&◌, ◌==◌, ◌∷◌, ◌≡◌}
-
-module _ {A : Type 0} (same : A → A → Bool) where
-  -- lists of other lengths are not the same
-  pub lengths_differ : (xs ys : List A) → (length xs ≡ length ys → ⊥) → pointwise same xs ys ≡ false
-  lengths_differ [] [] differ = absurd (differ refl)
-  lengths_differ [] (y ∷ ys) differ = refl
-  lengths_differ (x ∷ xs) [] differ = refl
-  lengths_differ (x ∷ xs) (y ∷ ys) differ = by (same x y) (lengths_differ xs ys (λ is. differ (ap suc is)))
-    where
-      by : (here : Bool) → pointwise same xs ys ≡ false → (here && pointwise same xs ys) ≡ false
-      by true later = later
-      by false later = refl
-
-  pub all_same : ((x : A) → same x x ≡ true) → (xs : List A) → pointwise same xs xs ≡ true
-  all_same each [] = refl
-  all_same each (x ∷ xs) = and_from (same x x) _ (each x) (all_same each xs)
-
-  pub same_lists : ((x y : A) → same x y ≡ true → x ≡ y) → (xs ys : List A) → pointwise same xs ys ≡ true → xs ≡ ys
-  same_lists each [] [] is = refl
-  same_lists each [] (y ∷ ys) is = absurd cc
-  same_lists each (x ∷ xs) [] is = absurd cc
-  same_lists each (x ∷ xs) (y ∷ ys) is =
-      let both = and_parts (same x y) (pointwise same xs ys) is in
-      ap₂ (λ z zs. z ∷ zs) (each x y both.0) (same_lists each xs ys both.1)
-
-pub ruleset places = lengths_differ
-
-same_name : (name : List ℕ) → is_same_name name name ≡ true
-same_name name = (bytes_decides name name).1 refl
-
-name_is : (a b : List ℕ) → is_same_name a b ≡ true → a ≡ b
-name_is a b is = (bytes_decides a b).0 is
-
-same_flag : (a : Bool) → is_same_flag a a ≡ true
-same_flag true = refl
-same_flag false = refl
-
-flag_is : (a b : Bool) → is_same_flag a b ≡ true → a ≡ b
-flag_is true true is = refl
-flag_is true false is = absurd cc
-flag_is false true is = absurd cc
-flag_is false false is = refl
+-- Whether two objects say the same of the program, and what it says.
+use Rattle.sc_object.proofs.Common.{Face, FaceExport, ObjectParts, and_from, and_parts, eq-eqb, eqb-true}
+use Rattle.sc_object.proofs.Common.{is_same_export, is_same_face, is_same_flag, is_same_import, is_same_name}
+use Rattle.sc_object.proofs.Common.{is_same_program, pointwise, refl, subst, true, ◌==◌, ◌≡◌}
+use Rattle.sc_image.proofs.Alike.{all_same, flag_is, import_is, name_is, same_flag, same_import, same_lists, same_name}
 
 same_export : (export : FaceExport) → is_same_export export export ≡ true
 same_export export = and_from (is_same_name export.name export.name) _ (same_name export.name)
@@ -58,17 +16,6 @@ export_is a b is =
     let p = eqb-true a.params b.params params.0 in
     let r = flag_is a.result b.result params.1 in
     λ i. record { name = n i; params = p i; result = r i }
-
-same_import : (import : ImportPart) → is_same_import import import ≡ true
-same_import import = and_from (import.comp == import.comp) _ (eq-eqb import.comp import.comp refl)
-    (eq-eqb import.index import.index refl)
-
-import_is : (a b : ImportPart) → is_same_import a b ≡ true → a ≡ b
-import_is a b is =
-    let both = and_parts (a.comp == b.comp) _ is in
-    let c = eqb-true a.comp b.comp both.0 in
-    let n = eqb-true a.index b.index both.1 in
-    λ i. record { comp = c i; index = n i }
 
 same_face : (face : Face) → is_same_face face face ≡ true
 same_face face = and_from (is_same_name face.name face.name) _ (same_name face.name)

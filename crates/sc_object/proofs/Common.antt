@@ -24,7 +24,7 @@ unfoldable pub use Rattle.sc_fields.specs.Prelude.{code_at, comp_name_at, fields
 pub use Rattle.sc_fields.specs.declared.import.ImportPart.{ImportPart}
 pub use Rattle.sc_image.specs.Prelude.{IsByte, IsWord, most_globals, stretch, IsWellFormed, are_distinct_by, code_in}
 pub use Rattle.sc_image.specs.Prelude.{code_start, comps_keep, exports_keep, flags, has_heap, imports_keep}
-pub use Rattle.sc_image.specs.Prelude.{initial_globals, is_entry, is_importable, is_same_import}
+pub use Rattle.sc_image.specs.Prelude.{initial_globals, is_entry, is_importable, is_same_flag, is_same_import}
 pub use Rattle.sc_image.specs.Prelude.{keeps_rules as image_keeps_rules}
 pub use Rattle.sc_object.specs.Prelude.{AreBytesOf, AreObjects, BytesNameOneList, FaceFits, IsFace, IsFaceExport}
 pub use Rattle.sc_object.specs.Prelude.{IsFirstBad, IsObject, IsReadSo, ObjectIsReadAgain, ObjectsOrBad, OneFirstBad}
@@ -32,7 +32,7 @@ pub use Rattle.sc_object.specs.Prelude.{count_at, face_bytes, face_export_bytes,
 pub use Rattle.sc_object.specs.Prelude.{face_keeps, faces_keep, is_offered, is_start, keeps_rules, object_bytes}
 pub use Rattle.sc_object.specs.Prelude.{object_parts_bytes, start_at, version_at, AreObjectsOf, CanBeJoined, HasEntries}
 pub use Rattle.sc_object.specs.Prelude.{HasOwn, IsJoined, LinkIsCompile, ObjectsAreSeparate, IsJoinFault, differ_from}
-pub use Rattle.sc_object.specs.Prelude.{face_export, face_of, has_number, is_same_export, is_same_face, is_same_flag}
+pub use Rattle.sc_object.specs.Prelude.{face_export, face_of, has_number, is_same_export, is_same_face}
 pub use Rattle.sc_object.specs.Prelude.{is_same_program, join_as, join_fault, joined_part, joined_parts, missing_from}
 pub use Rattle.sc_object.specs.Prelude.{object_for, object_of, own_exports, twice_from, with_entries}
 unfoldable pub use Rattle.sc_object.specs.Prelude.{face_at, face_exports_at, object_at, parts_at, read_face_export}

@@ -1,8 +1,8 @@
 -- Why objects can't be joined, first of all: one says something else of the program than the first, two are of one
 -- compartment, or a compartment has none.
-use Rattle.sc_image.specs.Prelude.{is_same_import, is_same_name}
+use Rattle.sc_image.specs.Prelude.{is_same_flag, is_same_import, is_same_name}
 use Rattle.std.specs.Prelude.{◌≡◌, ℕ, zero, suc, Bool, ◌&&◌, ◌==◌, List, [], ◌∷◌, ◌++◌, length, Option, None, Some, All}
-use Rattle.std.specs.Prelude.{IsSome, false, if◌then◌else◌, option_and_then, slice_get, true}
+use Rattle.std.specs.Prelude.{IsSome, if◌then◌else◌, option_and_then, slice_get}
 use Rattle.std.specs.Cmp.Lexicographic.{pointwise}
 use Rattle.std.specs.List.{list_any}
 use Rattle.std.specs.Option.{option_or}
@@ -12,9 +12,6 @@ use Rattle.sc_object.specs.declared.parts.Face.{Face}
 use Rattle.sc_object.specs.declared.parts.FaceExport.{FaceExport}
 use Rattle.sc_object.specs.declared.parts.ObjectParts.{ObjectParts}
 use Rattle.sc_object.specs.WellFormed.{IsObject}
-
-abbrev pub is_same_flag : Bool → Bool → Bool
-is_same_flag a b = if a then b else (if b then false else true)
 
 abbrev pub is_same_export : FaceExport → FaceExport → Bool
 is_same_export a b = is_same_name a.name b.name && (a.params == b.params && is_same_flag a.result b.result)

@@ -11,5 +11,5 @@ pub use Rattle.sc_object.specs.Joining.{HasEntries, HasOwn, IsJoined, IsObjectOf
 pub use Rattle.sc_object.specs.Joining.{joined_part, joined_parts, object_for, object_of, with_entries}
 pub use Rattle.sc_object.specs.Laws.{AreObjectsOf, LinkIsCompile, ObjectsAreSeparate}
 pub use Rattle.sc_object.specs.Linking.{CanBeJoined, IsJoinFault, NamesFace, differ_from, face_for, has_number}
-pub use Rattle.sc_object.specs.Linking.{is_same_export, is_same_face, is_same_flag, is_same_program, join_fault}
+pub use Rattle.sc_object.specs.Linking.{is_same_export, is_same_face, is_same_program, join_fault}
 pub use Rattle.sc_object.specs.Linking.{missing_from, twice_from}

@@ -1,12 +1,11 @@
 //! Whether two objects say the same of the program.
 
-ghost use Rattle.sc_object.specs.Prelude.{is_same_export, is_same_face, is_same_flag, is_same_program};
-ghost use Rattle.sc_image.specs.Prelude.{is_same_import};
+ghost use Rattle.sc_object.specs.Prelude.{is_same_export, is_same_face, is_same_program};
 ghost use Rattle.std.specs.Prelude.{◌≡◌};
 ghost use Rattle.std.specs.Cmp.Lexicographic.{pointwise};
 
 use crate::{Face, FaceExport, ObjectParts};
-use sc_image::ImportPart;
+use sc_image::{are_same_imports, is_same_flag};
 
 /// Whether two objects have the same main compartment and the same faces.
 pub(crate) fn is_same_program(a: &ObjectParts, b: &ObjectParts) -> bool
@@ -15,7 +14,7 @@ pub(crate) fn is_same_program(a: &ObjectParts, b: &ObjectParts) -> bool
     a.main.number() == b.main.number() && are_same_faces(a.faces.as_slice(), b.faces.as_slice())
 }
 
-#[tactic(auto, using(crate::proofs::Alike::places))]
+#[tactic(auto, using(sc_image::proofs::Alike::places))]
 fn are_same_faces(faces: &[Face], others: &[Face]) -> bool
     ensures { result ≡ pointwise is_same_face faces.now others.now }
 {
@@ -40,13 +39,7 @@ fn is_same_face(a: &Face, b: &Face) -> bool
         && are_same_imports(a.imports.as_slice(), b.imports.as_slice())
 }
 
-fn is_same_flag(a: bool, b: bool) -> bool
-    ensures { result ≡ is_same_flag a b }
-{
-    if a { b } else { !b }
-}
-
-#[tactic(auto, using(crate::proofs::Alike::places))]
+#[tactic(auto, using(sc_image::proofs::Alike::places))]
 fn are_same_exports(exports: &[FaceExport], others: &[FaceExport]) -> bool
     ensures { result ≡ pointwise is_same_export exports.now others.now }
 {
@@ -67,25 +60,4 @@ fn is_same_export(a: &FaceExport, b: &FaceExport) -> bool
     a.name.as_bytes() == b.name.as_bytes()
         && a.params == b.params
         && is_same_flag(a.result, b.result)
-}
-
-#[tactic(auto, using(crate::proofs::Alike::places))]
-fn are_same_imports(imports: &[ImportPart], others: &[ImportPart]) -> bool
-    ensures { result ≡ pointwise is_same_import imports.now others.now }
-{
-    if imports.len() != others.len() {
-        return false;
-    }
-    for i in 0..imports.len() {
-        if !is_same_import(imports[i], others[i]) {
-            return false;
-        }
-    }
-    true
-}
-
-fn is_same_import(a: ImportPart, b: ImportPart) -> bool
-    ensures { result ≡ is_same_import a b }
-{
-    a.comp.number() == b.comp.number() && a.index == b.index
 }

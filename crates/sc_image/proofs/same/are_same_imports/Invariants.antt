@@ -1,5 +1,5 @@
-use Rattle.sc_object.proofs.Common.{drop, is_same_import, pointwise, ◌≡◌}
-use Rattle.sc_object.proofs.same.are_same_imports.Given as goal
+use Rattle.sc_image.proofs.Common.{drop, is_same_import, pointwise, ◌≡◌}
+use Rattle.sc_image.proofs.same.are_same_imports.Given as goal
 
 abbrev pub invariant-loop-i : goal.invariant-loop-i
 invariant-loop-i l =
