@@ -31,7 +31,7 @@ pub use Rattle.std.specs.Cmp.{IsEquivalence, unsigned_Decides}
 pub use Rattle.std.specs.Cmp.Lexicographic.{bytes_decides, pointwise, same_text}
 pub use Rattle.std.specs.List.{AllByRecursion, filter, list_all, list_any, range_with_len, slice_get}
 pub use Rattle.std.specs.Option.{IsSomeAnd, option_and_then, option_map, option_map_or}
-pub use Rattle.sc_base.proofs.Lists.{all_by, is_there}
+pub use Rattle.sc_base.proofs.Lists.{all_by, is_there, take_all, take_prefix}
 pub use Rattle.sc_base.specs.Prelude.{IsPrefix, is_between, is_name_byte, is_nondigit}
 unfoldable pub use Rattle.sc_base.specs.Prelude.{is_name}
 pub use Rattle.sc_event.specs.Prelude.{is_listed}
@@ -50,6 +50,8 @@ pub use Rattle.sc_image.specs.Common.{Load, LoadOp, Lui, Main, Misaligned, NoImp
 pub use Rattle.sc_image.specs.Common.{Region, Ret, Shift, ShiftOp, StepsOut, Stop, Store, StoreOp, Trap, TrapReason}
 pub use Rattle.sc_image.specs.Common.{Upper, little_bytes, little_number}
 pub use Rattle.sc_image.specs.Prelude.{Adds, AgreeFor, AreBytesOf, BadOrImage, BytesNameOneImage, CallsComeBack}
+pub use Rattle.sc_image.specs.Prelude.{BadOrBegins, BadPartIsBad, BeginWith, BeginWithImage, BytesBeginWithOne}
+pub use Rattle.sc_image.specs.Prelude.{PartIsWhole, bad_part}
 pub use Rattle.sc_image.specs.Prelude.{WrittenIsRead, a1, data_end, frees, has_heap, latest_version, most_flags}
 pub use Rattle.sc_image.specs.Prelude.{on_alloc, on_free, parts_bytes, starts_block, version_at, with_zone, with_reg}
 pub use Rattle.sc_image.specs.Prelude.{zone_address, zone_of, zone_size, zone_start, ComesBack, Crossing, Emits}
@@ -82,7 +84,8 @@ pub use Rattle.sc_image.specs.Prelude.{word_interface, word_interfaces, word_pro
 pub use Rattle.sc_image.specs.Prelude.{AreGiven, IsButFor, differing, is_kept, is_same_export, is_same_flag}
 pub use Rattle.sc_image.specs.Prelude.{is_same_inside, is_same_inside_at, is_same_outside, is_seen_alike, seen_of}
 pub use Rattle.sc_zone.specs.declared.span.Span.{Span}
-unfoldable pub use Rattle.sc_image.specs.Prelude.{are_data, execute_by, image_in, parts_at, read_comp, read_exports}
+unfoldable pub use Rattle.sc_image.specs.Prelude.{are_data, execute_by, image_at, image_in, parts_at, read_comp}
+unfoldable pub use Rattle.sc_image.specs.Prelude.{read_exports}
 unfoldable pub use Rattle.sc_image.specs.Prelude.{run_by, start_memory, step_by, stopped, word_at}
 pub use Rattle.sc_fields.specs.Prelude.{Fails, Read, bit, bytes_at, code_bytes, globals_bytes, if_good, import_bytes}
 pub use Rattle.sc_fields.specs.Prelude.{imports_bytes, mark_at, name_bytes, number_at, number_that, ◌>>=◌}

@@ -1,12 +1,12 @@
 -- The compartments that are given in an image: those that `differing` lists are the least set but for which the image
 -- equals the program's own one.
 use Rattle.sc_image.proofs.Common.{All, AllPairs, AreGiven, Bool, CompPart, ImageParts, IsButFor, IsWellFormed, List}
-use Rattle.sc_image.proofs.Common.{None, Option, Some, [], and_from, and_parts, ap, append-nil, ap₂, arith, cases_lt, cond, differing}
-use Rattle.sc_image.proofs.Common.{eq-eqb, eqb-true, false, filter, get_or, inl, inr, is_kept, is_listed}
+use Rattle.sc_image.proofs.Common.{None, Option, Some, [], and_from, and_parts, ap, append-nil, ap₂, arith, cases_lt}
+use Rattle.sc_image.proofs.Common.{cond, differing, eq-eqb, eqb-true, false, filter, inl, inr, is_kept, is_listed}
 use Rattle.sc_image.proofs.Common.{is_same_inside, is_same_inside_at, is_same_outside, is_seen_alike, is_there, length}
 use Rattle.sc_image.proofs.Common.{length-map, map, not, option_map, option_map_or, or_left, or_right, pointwise}
 use Rattle.sc_image.proofs.Common.{range_with_len, refl, seen_of, slice_get, slice_get-map, slice_get_past, subst, suc}
-use Rattle.sc_image.proofs.Common.{sym, true, zero, zero-add, ℕ, ⊎_elim, ◌+◌, ◌++◌, ◌<◌, ◌==◌, ◌||◌, ◌∙◌, ◌∷◌, ◌≡◌, ◌≤◌}
+use Rattle.sc_image.proofs.Common.{sym, true, zero, zero-add, ℕ, ◌+◌, ◌++◌, ◌<◌, ◌==◌, ◌||◌, ◌∙◌, ◌∷◌, ◌≡◌, ◌≤◌}
 use Rattle.sc_image.proofs.Alike.{alike_if_seen, comp_is_one, lists_seen, same_inside, seen_alike, seen_lists}
 use Rattle.std.proofs.lemmas.List.Elements.{All-filter, All-head, All-tail, filter-append}
 use Rattle.std.proofs.lemmas.List.FromFn.{get_or-range_with_len, length-range_with_len}
@@ -72,6 +72,7 @@ kept_passes p (x ∷ xs) c is = by (p x) refl is (kept_passes p xs c)
         (same || is_listed (filter p xs) c) ≡ true → p c ≡ true
     at passes later true same is = subst (λ k. p k ≡ true) (eqb-true x c same) passes
     at passes later false same is = later is
+
     by : (b : Bool) → p x ≡ b → is_listed (cond b (x ∷ filter p xs) (filter p xs)) c ≡ true →
         (is_listed (filter p xs) c ≡ true → p c ≡ true) → p c ≡ true
     by true passes is later = at passes later (x == c) refl is
@@ -87,6 +88,7 @@ passing_is_kept p (x ∷ xs) c passes is = by (x == c) refl is (passing_is_kept 
         is_listed (cond b (x ∷ filter p xs) (filter p xs)) c ≡ true
     behind is true = or_right (x == c) _ is
     behind is false = is
+
     by : (same : Bool) → (x == c) ≡ same → (same || is_listed xs c) ≡ true →
         (is_listed xs c ≡ true → is_listed (filter p xs) c ≡ true) → is_listed (filter p (x ∷ xs)) c ≡ true
     by true same is later =
@@ -184,7 +186,7 @@ module _ (own image : ImageParts) (own_formed : IsWellFormed own) (formed : IsWe
   same_unless c out =
       elim (cases_lt c (length own.comps)) [
         | inl lt ↦ alike_inside image.comps own.comps c seen_same
-          (and_parts (is_same_inside_at image.comps own.comps c) _ (kept_unless c lt out)).0
+            (and_parts (is_same_inside_at image.comps own.comps c) _ (kept_unless c lt out)).0
         | inr le ↦ slice_get_past image.comps c (omega (arith, long_same)) ∙ sym (slice_get_past own.comps c le)
       ]
 
@@ -201,7 +203,8 @@ module _ (own image : ImageParts) (own_formed : IsWellFormed own) (formed : IsWe
       by true is = refl
       by false is =
           let differs = kept_passes (λ k. not (is_kept own image k)) (range_with_len 0 (length own.comps)) c listed in
-          let kept = kept_outside own image set but c (listed_holds (λ k. k < length own.comps) (differing own image) c listed_there listed) is in
+          let there = listed_holds (λ k. k < length own.comps) (differing own image) c listed_there listed in
+          let kept = kept_outside own image set but c there is in
           let never : false ≡ true = sym (ap not kept) ∙ differs in
           absurd cc
 
@@ -216,7 +219,8 @@ module _ (own image : ImageParts) (own_formed : IsWellFormed own) (formed : IsWe
       seen = seen_same;
       kept = same_unless;
     };
-    ordered = AllPairs-filter (λ c later. c < later) (λ c. not (is_kept own image c)) _ (range_rises (length own.comps));
+    ordered = AllPairs-filter (λ c later. c < later) (λ c. not (is_kept own image c)) _
+        (range_rises (length own.comps));
     there = listed_there;
     least = in_each;
   }

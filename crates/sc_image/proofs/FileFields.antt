@@ -159,7 +159,7 @@ pub record FitsParts (version : ℕ) (parts : ImageParts) : Type 0 where
   pub entry : parts.entry < 2 ^ 32
   pub comps : AllByRecursion (FitsComp version (length parts.comps)) parts.comps
 
-count_within : (n : ℕ) → is_between 1 32 n ≡ true → (1 ≤ n) × (n ≤ 32)
+pub count_within : (n : ℕ) → is_between 1 32 n ≡ true → (1 ≤ n) × (n ≤ 32)
 count_within n h = (grind (arith, nat_tests), grind (arith, nat_tests))
 
 count_passes : (n : ℕ) → 1 ≤ n → n ≤ 32 → is_between 1 32 n ≡ true

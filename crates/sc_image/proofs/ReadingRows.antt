@@ -1,7 +1,8 @@
 -- What is read from the bytes of small images, and why other bytes are none.
 use Rattle.sc_image.proofs.Common.{Compartment, Contents, Count, Err, Exports, ImageParts, ImportPart, Imports, List}
-use Rattle.sc_image.proofs.Common.{Mark, None, Ok, Some, Start, Version, Whole, [], bad, code_at, codes, comp_name_at}
-use Rattle.sc_image.proofs.Common.{false, fields_at, globals_at, image_bytes, image_in, import_at, imports_at}
+use Rattle.sc_image.proofs.Common.{Mark, None, Ok, Some, Start, Version, Whole, [], bad, bad_part, code_at, codes}
+use Rattle.sc_image.proofs.Common.{comp_name_at, false, fields_at, globals_at, image_at, image_bytes, image_in}
+use Rattle.sc_image.proofs.Common.{import_at, imports_at}
 use Rattle.sc_image.proofs.Common.{most_globals, is_name, keeps_rules, map, nat_le, number_that, parts_at}
 use Rattle.sc_image.proofs.Common.{range_with_len, stretch, read_comp, read_exports, read_name, refl, replicate, take}
 use Rattle.sc_image.proofs.Common.{true, word_at, ℕ, ◌++◌, ◌∷◌, ◌≡◌}
@@ -27,10 +28,12 @@ prefixes : (map (λ k. bad (take k seven)) (range_with_len 0 47) ≡
     (replicate 1 (Some Count) ++ (replicate 5 (Some Start) ++ (replicate 3 (Some Compartment) ++
     (replicate 2 (Some Exports) ++ (replicate 2 (Some Imports) ++ replicate 28 (Some Contents)))))))) ×
     (bad seven ≡ None) ×
-    (bad (seven ++ 0 ∷ []) ≡ Some Whole)
-unfolding image_in parts_at read_comp comp_name_at read_name read_exports imports_at code_at globals_at
+    (bad (seven ++ 0 ∷ []) ≡ Some Whole) ×
+    (bad_part (seven ++ 0 ∷ []) ≡ None) ×
+    (bad_part (take 46 seven) ≡ Some Contents)
+unfolding image_in image_at parts_at read_comp comp_name_at read_name read_exports imports_at code_at globals_at
     fields_at is_name word_at
-prefixes = (refl, refl, refl)
+prefixes = (refl, refl, refl, refl, refl)
 
 -- fields that are there and bad
 abbrev starting : (version count main entry : ℕ) → List ℕ
@@ -48,7 +51,7 @@ starts : (bad (0x53 ∷ 0x43 ∷ 0x49 ∷ 0x4e ∷ []) ≡ Some Mark) ×
     (bad (starting 1 1 0 20) ≡ Some Whole) ×
     (bad (starting 1 1 0 2) ≡ Some Whole) ×
     (bad (starting 1 1 0 16) ≡ None)
-unfolding image_in parts_at read_comp comp_name_at read_name read_exports imports_at code_at globals_at
+unfolding image_in image_at parts_at read_comp comp_name_at read_name read_exports imports_at code_at globals_at
     fields_at is_name word_at
 starts = (refl, refl, refl, refl, refl, refl, refl, refl, refl, refl, refl)
 
@@ -58,7 +61,7 @@ flags : (bad (flagged 1 3) ≡ None) ×
     (bad (flagged 1 6) ≡ Some Compartment) ×
     (bad (flagged 2 7) ≡ None) ×
     (bad (flagged 2 8) ≡ Some Compartment)
-unfolding image_in parts_at read_comp comp_name_at read_name read_exports imports_at code_at globals_at
+unfolding image_in image_at parts_at read_comp comp_name_at read_name read_exports imports_at code_at globals_at
     fields_at is_name word_at
 flags = (refl, refl, refl, refl, refl)
 
@@ -76,7 +79,7 @@ reads_flags : (image_in (flagged 2 6) ≡ Ok (outputs_seven 6)) ×
     -- what was read of version 1 is written in version 2
     (image_in (flagged 1 2) ≡ Ok (outputs_seven 2)) ×
     (image_bytes (outputs_seven 2) ≡ flagged 2 2)
-unfolding image_in parts_at read_comp comp_name_at read_name read_exports imports_at code_at globals_at
+unfolding image_in image_at parts_at read_comp comp_name_at read_name read_exports imports_at code_at globals_at
     fields_at is_name word_at
 reads_flags = (refl, refl, refl, refl)
 
@@ -138,7 +141,7 @@ rules = (refl, refl, refl, refl, refl, refl, refl, refl, refl)
 -- an image with every table is read from its bytes
 reads_all : image_in (image_bytes (pair (import 1 0 ∷ import 1 1 ∷ []) (codes "B") 0x01100000 0x01100004)) ≡
     Ok (pair (import 1 0 ∷ import 1 1 ∷ []) (codes "B") 0x01100000 0x01100004)
-unfolding image_in parts_at read_comp comp_name_at read_name read_exports read_export imports_at
+unfolding image_in image_at parts_at read_comp comp_name_at read_name read_exports read_export imports_at
     import_at
     code_at globals_at fields_at is_name word_at
 reads_all = refl

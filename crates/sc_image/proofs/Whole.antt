@@ -1,25 +1,29 @@
 -- Parts are well formed exactly where their fields are good and they keep the rules on a whole image: what is read is
 -- an image with these bytes, and what an image is written as is read as it.
 use Rattle.sc_image.proofs.Common.{All, All-from_recursion, AllPairs-from_IsDistinct, AreBytesOf, BadImage, BadOrImage}
+use Rattle.sc_image.proofs.Common.{BadOrBegins, BadPartIsBad, BeginWith, BeginWithImage, BytesBeginWithOne, Count}
+use Rattle.sc_image.proofs.Common.{PartIsWhole, Read, Start, bytes_in_version, drop, fields_at, image_at, is_between}
+use Rattle.sc_image.proofs.Common.{number_at, number_that}
+use Rattle.sc_image.proofs.Common.{length-append, length-drop, read_comp, take, take-append-drop, take_all, take_prefix}
 use Rattle.sc_image.proofs.Common.{Bool, BytesNameOneImage, CompPart, Decides, Decides-and, Decides-by_and}
 use Rattle.sc_image.proofs.Common.{Decides-like, Decides-ltb, Decides-not, Err, ExportPart, FitsItsFields, ImageParts}
-use Rattle.sc_image.proofs.Common.{ImportPart, IsComp, IsDistinct, Mark, IsDistinct-from_AllPairs}
+use Rattle.sc_image.proofs.Common.{ImportPart, IsComp, IsDistinct, IsDistinct-from_AllPairs}
 use Rattle.sc_image.proofs.Common.{IsDistinct-from_count, IsEntry, IsEquivalence, IsImage, IsImport, IsSomeAnd}
 use Rattle.sc_image.proofs.Common.{IsWellFormed, IsWord, List, None, Ok, Option, Result, Some, Whole, WrittenIsRead, []}
-use Rattle.sc_image.proofs.Common.{all_by, and_parts, ap, append-nil, are_distinct_by, arith, bytes_decides, code_in}
+use Rattle.sc_image.proofs.Common.{all_by, ap, append-nil, are_distinct_by, arith, bytes_decides, code_in}
 use Rattle.sc_image.proofs.Common.{code_start, codes, comps_keep, cond, distinct_count-from_IsDistinct, eq-eqb}
 use Rattle.sc_image.proofs.Common.{eqb-true, exports_keep, false, false_from_ne_true, flags, get_or_from_slice_get}
 use Rattle.sc_image.proofs.Common.{image_bytes, image_in, imports_keep, is_entry, is_importable, is_same_import}
 use Rattle.sc_image.proofs.Common.{is_same_name, is_some, keeps_rules, latest_version, length, list_all, little_bytes}
-use Rattle.sc_image.proofs.Common.{lit≤, map, mark_at, most_flags, nat_lt, nat_tests, nil_from_length, not}
+use Rattle.sc_image.proofs.Common.{lit≤, map, most_flags, nat_lt, nat_tests, nil_from_length, not}
 use Rattle.sc_image.proofs.Common.{not_from_Decides, option_map_or, parts_at, parts_bytes, read_cause}
 use Rattle.sc_image.proofs.Common.{recursion_from_All, refl, same_from_decides, slice_get, slice_get_within, stretch}
-use Rattle.sc_image.proofs.Common.{subst, suc, sym, true, unsigned_Decides, version_at, word_at, zero, ℕ, ◌&&◌, ◌*◌}
+use Rattle.sc_image.proofs.Common.{subst, suc, sym, true, unsigned_Decides, word_at, zero, ℕ, ◌&&◌, ◌*◌}
 use Rattle.sc_image.proofs.Common.{◌++◌, ◌+◌, ◌-◌, ◌/◌, ◌<◌, ◌==◌, ◌^◌, ◌∙◌, ◌∷◌, ◌≡◌, ◌≤◌}
 use Rattle.sc_fields.proofs.Compartments.{FitsImport}
 use Rattle.sc_fields.proofs.Fields.{IsBytes, all_bytes, bytes_fit, bind_ok, good_ok}
 use Rattle.sc_image.proofs.Words.{some_is}
-use Rattle.sc_image.proofs.FileFields.{FitsExport, FitsComp, FitsParts, mark_field_of_images, parts_field}
+use Rattle.sc_image.proofs.FileFields.{FitsExport, FitsComp, FitsParts, count_within, mark_field_of_images, parts_field}
 use Rattle.sc_image.proofs.FileFields.{version_field}
 
 fits : (image : ImageParts) (c : ℕ) (comp : CompPart) → IsComp image c comp → FitsItsFields comp
@@ -262,26 +266,31 @@ module _ (version : ℕ) (image : ImageParts) (formed : IsWellFormed image)
 
 -- What is read is an image with these bytes, and what an image is written as is read as it.
 
--- what is read is well formed, and these are its bytes
-pub is_read : (bytes : List ℕ) (image : ImageParts) → IsBytes bytes → image_in bytes ≡ Ok image →
-    IsWellFormed image × AreBytesOf image bytes
-unfolding image_in
-is_read bytes image fits e =
-    let m = bind_ok _ _ image e in
+-- the bytes are those of the image in a version of the format, and the rest
+pub record Begins (image : ImageParts) (bytes rest : List ℕ) : Type 0 where
+  pub version : ℕ
+  pub some : 1 ≤ version
+  pub known : version ≤ latest_version
+  pub without_heap : version ≡ 1 → All (λ comp. comp.heap ≡ false) image.comps
+  pub are : bytes ≡ bytes_in_version version image ++ rest
+
+-- what is read at the beginning is well formed, and the bytes begin with its bytes
+pub begins : (bytes : List ℕ) (image : ImageParts) (rest : List ℕ) → IsBytes bytes →
+    image_at bytes ≡ Ok (image, rest) → IsWellFormed image × Begins image bytes rest
+unfolding image_at
+begins bytes image rest fits e =
+    let m = bind_ok _ _ (image, rest) e in
     let mark = mark_field_of_images.takes bytes m.0.0 m.0.1 fits m.1 in
-    let v = bind_ok _ _ image m.2 in
+    let v = bind_ok _ _ (image, rest) m.2 in
     let version = version_field.takes m.0.1 v.0.0 v.0.1 mark.0.rest_fits v.1 in
-    let a = bind_ok _ _ image v.2 in
+    let a = bind_ok _ _ (image, rest) v.2 in
     let parts = (parts_field v.0.0).takes v.0.1 a.0.0 a.0.1 version.0.rest_fits a.1 in
-    let g = good_ok Whole _ a.0.0 image a.2 in
-    let tests = and_parts (length a.0.1 == 0) _ g.0 in
-    let none = nil_from_length a.0.1 (eqb-true _ _ tests.0) in
-    let whole = parts.0.parts ∙ ap (λ rest. parts_bytes a.0.0 ++ rest) none ∙ append-nil _ in
-    let after = version.0.parts ∙ ap (λ rest. little_bytes 2 v.0.0 ++ rest) whole in
-    let all = mark.0.parts ∙ ap (λ rest. m.0.0 ++ rest) after ∙
-    ap (λ text. text ++ (little_bytes 2 v.0.0 ++ parts_bytes a.0.0)) mark.1 in
-    subst (λ x. IsWellFormed x × AreBytesOf x bytes) g.1 (
-      whole_is v.0.0 a.0.0 parts.1 tests.1,
+    let g = good_ok Whole _ a.0 (image, rest) a.2 in
+    let after = version.0.parts ∙ ap (λ more. little_bytes 2 v.0.0 ++ more) parts.0.parts in
+    let all = mark.0.parts ∙ ap (λ more. m.0.0 ++ more) after ∙
+    ap (λ text. text ++ (little_bytes 2 v.0.0 ++ (parts_bytes a.0.0 ++ a.0.1))) mark.1 in
+    subst (λ (x : ImageParts × List ℕ). IsWellFormed x.0 × Begins x.0 bytes x.1) g.1 (
+      whole_is v.0.0 a.0.0 parts.1 g.0,
       record {
         version = v.0.0;
         some = version.1.0;
@@ -292,25 +301,104 @@ is_read bytes image fits e =
       },
     )
 
-pub parts_are_few : (bytes marked versioned rest : List ℕ) (mark : List ℕ) (version : ℕ) (parts : ImageParts) →
-    IsBytes bytes → mark_at Mark (codes "SCIM") bytes ≡ Ok (mark, marked) →
-    version_at marked ≡ Ok (version, versioned) →
-    parts_at version versioned ≡ Ok (parts, rest) → length parts.comps ≤ 32
-parts_are_few bytes marked versioned rest mark version parts fits first second third =
-    let after_mark = (mark_field_of_images.takes bytes mark marked fits first).0.rest_fits in
-    let after_version = (version_field.takes marked version versioned after_mark second).0.rest_fits in
-    ((parts_field version).takes versioned parts rest after_version third).1.few
+-- what is read is well formed, and these are its bytes
+pub is_read : (bytes : List ℕ) (image : ImageParts) → IsBytes bytes → image_in bytes ≡ Ok image →
+    IsWellFormed image × AreBytesOf image bytes
+unfolding image_in
+is_read bytes image fits e =
+    let a = bind_ok _ _ image e in
+    let g = good_ok Whole _ a.0.0 image a.2 in
+    let none = nil_from_length a.0.1 (eqb-true _ _ g.0) in
+    let h = begins bytes a.0.0 a.0.1 fits a.1 in
+    subst (λ x. IsWellFormed x × AreBytesOf x bytes) g.1 (
+      h.0,
+      record {
+        version = h.1.version;
+        some = h.1.some;
+        known = h.1.known;
+        without_heap = h.1.without_heap;
+        are = h.1.are ∙ ap (λ rest. bytes_in_version h.1.version a.0.0 ++ rest) none ∙ append-nil _;
+      },
+    )
+
+-- what is read at the beginning ends where the rest begins
+pub begin_with : (bytes : List ℕ) (image : ImageParts) (rest : List ℕ) → IsBytes bytes →
+    image_at bytes ≡ Ok (image, rest) → BeginWith image (length bytes - length rest) bytes
+begin_with bytes image rest fits e =
+    let h = (begins bytes image rest fits e).1 in
+    let text = bytes_in_version h.version image in
+    let long : length bytes ≡ length text + length rest = ap length h.are ∙ length-append text rest in
+    let place : length bytes - length rest ≡ length text = omega (arith, long) in
+    record {
+      within = omega arith;
+      are = record {
+        version = h.version;
+        some = h.some;
+        known = h.known;
+        without_heap = h.without_heap;
+        are = ap (λ n. take n bytes) place ∙ ap (take (length text)) h.are ∙ take_prefix text rest;
+      };
+    }
+
+pub rest_is_short : (bytes : List ℕ) (image : ImageParts) (rest : List ℕ) → IsBytes bytes →
+    image_at bytes ≡ Ok (image, rest) → length rest ≤ length bytes
+rest_is_short bytes image rest fits e =
+    let h = (begins bytes image rest fits e).1 in
+    let text = bytes_in_version h.version image in
+    let long : length bytes ≡ length text + length rest = ap length h.are ∙ length-append text rest in
+    omega (arith, long)
+
+-- an image has at most 32 compartments, whatever the bytes are
+abbrev done : {A : Type 0} → A → Result A BadImage
+done x = Ok x
+
+done_same : {A : Type 0} (x y : A) → done x ≡ done y → x ≡ y
+done_same x y e = cc
+
+fields_are : {A : Type 0} (field : List ℕ → Read BadImage A) (count : ℕ) (bytes : List ℕ) (xs : List A)
+    (rest : List ℕ) → fields_at field count bytes ≡ Ok (xs, rest) → length xs ≡ count
+unfolding fields_at
+fields_are {A} field zero bytes xs rest e = sym (ap (λ (p : List A × List ℕ). length p.0) (done_same _ _ e))
+fields_are {A} field (suc count) bytes xs rest e =
+    let first = bind_ok {A = A × List ℕ} (field bytes) _ (xs, rest) e in
+    let others = bind_ok {A = List A × List ℕ} (fields_at field count first.0.1) _ (xs, rest) first.2 in
+    sym (ap (λ (p : List A × List ℕ). length p.0) (done_same _ _ others.2)) ∙
+    ap suc (fields_are field count first.0.1 others.0.0 others.0.1 others.1)
+
+pub parts_are_few : (version : ℕ) (bytes : List ℕ) (parts : ImageParts) (rest : List ℕ) →
+    parts_at version bytes ≡ Ok (parts, rest) → length parts.comps ≤ 32
+unfolding parts_at
+parts_are_few version bytes parts rest e =
+    let count = bind_ok (number_that (is_between 1 32) Count 1 bytes) _ (parts, rest) e in
+    let number = bind_ok (number_at Count 1 bytes) _ count.0 count.1 in
+    let good = good_ok Count (is_between 1 32 number.0.0) number.0 count.0 number.2 in
+    let main = bind_ok (number_that (λ c. nat_lt c count.0.0) Start 1 count.0.1) _ (parts, rest) count.2 in
+    let entry = bind_ok (number_at Start 4 main.0.1) _ (parts, rest) main.2 in
+    let comps = bind_ok (fields_at (read_comp version count.0.0) count.0.0 entry.0.1) _ (parts, rest) entry.2 in
+    let within = count_within number.0.0 good.0 in
+    let same = ap (λ (p : ℕ × List ℕ). p.0) good.1 in
+    let many = fields_are (read_comp version count.0.0) count.0.0 entry.0.1 comps.0.0 comps.0.1 comps.1 in
+    let made = ap (λ (p : ImageParts × List ℕ). length p.0.comps) (done_same _ _ comps.2) in
+    omega (arith, within.1, same, many, made)
+
+-- bytes that begin with those of an image are read as it and the rest
+pub is_begun_again : (image : ImageParts) (bytes rest : List ℕ) → IsWellFormed image → AreBytesOf image bytes →
+    image_at (bytes ++ rest) ≡ Ok (image, rest)
+unfolding image_at
+is_begun_again image bytes rest formed are =
+    let mark = mark_field_of_images.again (codes "SCIM")
+    (little_bytes 2 are.version ++ (parts_bytes image ++ rest)) refl in
+    let version = version_field.again are.version (parts_bytes image ++ rest) (are.some, are.known) in
+    let parts = (parts_field are.version).again image rest (parts_fit are.version image formed are.without_heap) in
+    ap (λ text. image_at (text ++ rest)) are.are ∙ rw (mark, version, parts, rules_are_kept image formed) refl
 
 -- bytes of an image are read as it
 pub is_read_again : (image : ImageParts) (bytes : List ℕ) → IsWellFormed image → AreBytesOf image bytes →
     image_in bytes ≡ Ok image
 unfolding image_in
 is_read_again image bytes formed are =
-    let mark = mark_field_of_images.again (codes "SCIM") (little_bytes 2 are.version ++ parts_bytes image) refl in
-    let version = version_field.again are.version (parts_bytes image) (are.some, are.known) in
-    let parts = ap (parts_at are.version) (sym (append-nil (parts_bytes image))) ∙
-    (parts_field are.version).again image [] (parts_fit are.version image formed are.without_heap) in
-    ap image_in are.are ∙ rw (mark, version, parts, rules_are_kept image formed) refl
+    let part = ap image_at (sym (append-nil bytes)) ∙ is_begun_again image bytes [] formed are in
+    rw part refl
 
 -- what is written of an image are its bytes
 pub are_written : (image : ImageParts) → AreBytesOf image (image_bytes image)
@@ -340,3 +428,49 @@ bad_or_image_each bytes all = (
   λ none. no_cause bytes (bytes_fit bytes all) (image_in bytes) refl none,
   λ is. ap read_cause (is_read_again is.image bytes is.well_formed is.bytes_are),
 )
+
+-- The beginning of bytes.
+
+-- what is read at the beginning, and the rest
+begun : (image : ImageParts) (place : ℕ) (bytes : List ℕ) → IsWellFormed image → BeginWith image place bytes →
+    image_at bytes ≡ Ok (image, drop place bytes)
+begun image place bytes formed begin = ap image_at (sym (take-append-drop place bytes)) ∙
+    is_begun_again image (take place bytes) (drop place bytes) formed begin.are
+
+pub begin_with_one : BytesBeginWithOne
+begin_with_one bytes one other place end formed also begin ends =
+    let same = done_same _ _ (sym (begun one place bytes formed begin) ∙ begun other end bytes also ends) in
+    let rests : length (drop place bytes) ≡ length (drop end bytes) =
+    ap (λ (p : ImageParts × List ℕ). length p.1) same in (
+      ap (λ (p : ImageParts × List ℕ). p.0) same,
+      omega (arith, rests, length-drop place bytes, length-drop end bytes, begin.within, ends.within),
+    )
+
+no_cause_part : (bytes : List ℕ) → IsBytes bytes → (read : Read BadImage ImageParts) → image_at bytes ≡ read →
+    read_cause read ≡ None → BeginWithImage bytes
+no_cause_part bytes fits (Ok read) e none = record {
+  image = read.0;
+  place = length bytes - length read.1;
+  well_formed = (begins bytes read.0 read.1 fits e).0;
+  begin = begin_with bytes read.0 read.1 fits e;
+}
+no_cause_part bytes fits (Err cause) e none = let never = none in cc never
+
+pub bad_or_begins_each : BadOrBegins
+bad_or_begins_each bytes all = (
+  λ none. no_cause_part bytes (bytes_fit bytes all) (image_at bytes) refl none,
+  λ is. ap read_cause (begun is.image is.place bytes is.well_formed is.begin),
+)
+
+pub part_is_whole_each : PartIsWhole
+part_is_whole_each bytes image place formed begin whole = is_read_again image bytes formed
+    (subst (AreBytesOf image) (take_all place bytes (omega (arith, whole))) begin.are)
+
+bad_by : (bytes : List ℕ) (cause : BadImage) (read : Read BadImage ImageParts) → image_at bytes ≡ read →
+    read_cause read ≡ Some cause → image_in bytes ≡ Err cause
+unfolding image_in
+bad_by bytes cause (Ok read) e is = let never = is in cc never
+bad_by bytes cause (Err other) e is = let same : other ≡ cause = cc is in rw e (ap Err same)
+
+pub bad_part_is_bad_each : BadPartIsBad
+bad_part_is_bad_each bytes cause is = ap read_cause (bad_by bytes cause (image_at bytes) refl is)

@@ -28,10 +28,11 @@ pub use Rattle.sc_image.specs.Machine.{MachineRun, after, continued, is_end, is_
 pub use Rattle.sc_image.specs.Machine.{RunOf, run, unless_stopped}
 unfoldable pub use Rattle.sc_image.specs.Machine.{run_by, stopped}
 pub use Rattle.sc_image.specs.Own.{Entered, Kept, Own, Running, Waits, data_of, kept_by, own}
-pub use Rattle.sc_image.specs.Reading.{bad, cause_number, image_fault, most_flags, read_cause, version_at}
-unfoldable pub use Rattle.sc_image.specs.Reading.{image_in, parts_at, read_comp, read_exports}
+pub use Rattle.sc_image.specs.Reading.{bad, bad_part, cause_number, image_fault, most_flags, read_cause, version_at}
+unfoldable pub use Rattle.sc_image.specs.Reading.{image_at, image_in, parts_at, read_comp, read_exports}
 pub use Rattle.sc_image.specs.Returning.{CallsComeBack, ComesBack, HasCalled, StaysAbove}
-pub use Rattle.sc_image.specs.RoundTrip.{AreBytesOf, BadOrImage, BytesNameOneImage, IsImage, WrittenIsRead}
+pub use Rattle.sc_image.specs.RoundTrip.{AreBytesOf, BadOrBegins, BadOrImage, BadPartIsBad, BeginWith, BeginWithImage}
+pub use Rattle.sc_image.specs.RoundTrip.{BytesBeginWithOne, BytesNameOneImage, IsImage, PartIsWhole, WrittenIsRead}
 pub use Rattle.sc_image.specs.Rules.{are_distinct_by, comps_keep, exports_keep, imports_keep, is_entry, is_importable}
 pub use Rattle.sc_image.specs.Rules.{is_same_import, keeps_rules}
 pub use Rattle.sc_image.specs.State.{Crossing, MachineState, a0, a1, a7, byte_at, ra, reg, saved_sp, sp, stack_tops}

@@ -5,7 +5,7 @@ use Rattle.sc_fields.specs.Prelude.{number_at, number_that, read_name, ◌>>=◌
 use Rattle.sc_fields.specs.declared.fault.FieldFault.{FieldFault}
 use Rattle.sc_fields.specs.declared.fault.FieldFault.TheVariants as fields
 use Rattle.sc_image.specs.Common.{is_between}
-use Rattle.std.specs.Prelude.{ℕ, ◌/◌, ◌%◌, ◌&&◌, ◌==◌, nat_lt, nat_le, List, length, codes, Option, Some, None, Result}
+use Rattle.std.specs.Prelude.{ℕ, ◌/◌, ◌%◌, ◌==◌, nat_lt, nat_le, List, length, codes, Option, Some, None, Result}
 use Rattle.std.specs.Prelude.{Ok, Err, if◌then◌else◌}
 use Rattle.sc_image.specs.declared.fault.BadImage.{BadImage}
 use Rattle.sc_image.specs.declared.fault.BadImage.TheVariants.{Mark, Version, Count, Start, Compartment, Exports}
@@ -88,14 +88,20 @@ parts_at version bytes = do
   comps ← fields_at (read_comp version count.0) count.0 entry.1
   Ok (record { main = main.0; entry = entry.0; comps = comps.0 }, comps.1)
 
--- The image that the bytes are, or the cause of the first field that isn't good. Where all are, no byte
--- may follow them, and the parts keep the rules on a whole image.
-unfoldable pub image_in : List ℕ → Result ImageParts BadImage
-image_in bytes = do
+-- The image with which the bytes begin and the bytes after it, or the cause of the first field that isn't good. Where
+-- all fields are good, the parts keep the rules on a whole image.
+unfoldable pub image_at : List ℕ → Read BadImage ImageParts
+image_at bytes = do
   mark ← mark_at Mark (codes "SCIM") bytes
   version ← version_at mark.1
   parts ← parts_at version.0 version.1
-  if_good Whole (length parts.1 == 0 && keeps_rules parts.0) parts.0
+  if_good Whole (keeps_rules parts.0) parts
+
+-- the image that the bytes are, or the cause why they are none: no byte may follow the image
+unfoldable pub image_in : List ℕ → Result ImageParts BadImage
+image_in bytes = do
+  image ← image_at bytes
+  if_good Whole (length image.1 == 0) image.0
 
 abbrev pub read_cause : {A : Type 0} → Result A BadImage → Option BadImage
 read_cause (Ok x) = None
@@ -104,6 +110,10 @@ read_cause (Err cause) = Some cause
 -- why the bytes are no image, if they are none
 abbrev pub bad : List ℕ → Option BadImage
 bad bytes = read_cause (image_in bytes)
+
+-- why the bytes begin with no image, if they begin with none
+abbrev pub bad_part : List ℕ → Option BadImage
+bad_part bytes = read_cause (image_at bytes)
 
 -- why no image was read, by what happened at a field
 abbrev pub image_fault : FieldFault BadImage → ImageFault

@@ -13,14 +13,11 @@ use sc_base::OutOfMemory;
 use sc_event::CompIds;
 use std::alloc::Global;
 
-/// The compartments in which an image differs from a program's own image, in the order of their numbers, or `None` where
-/// the other compartments would see a difference: another main compartment, another number of compartments, or another
-/// name, permission, export or import of one. An image whose run begins at another entry differs in the main compartment.
-pub fn given_in(
-    alloc: Global,
-    own: &Image,
-    image: &Image,
-) -> Result<Option<CompIds>, OutOfMemory>
+/// The compartments in which an image differs from a program's own image, in the order of their numbers. The answer is
+/// `None` where other compartments would see the difference: another main compartment, another number of compartments,
+/// or another name, permission, export or import of a compartment. An image that begins at another entry differs in
+/// the main compartment.
+pub fn given_in(alloc: Global, own: &Image, image: &Image) -> Result<Option<CompIds>, OutOfMemory>
     ensures given { IfOk result (λ found. IfSome found (AreGiven own.now image.now)) }
     ensures none { IfOk result (λ found. IfNone found ((set : ℕ → Bool) → ¬ IsButFor set own.now image.now)) }
 {
@@ -57,11 +54,7 @@ fn are_same_outside(comps: &[CompPart], others: &[CompPart]) -> bool
 }
 
 // The compartments that are not the program's own ones.
-fn differing(
-    alloc: Global,
-    own: &ImageParts,
-    image: &ImageParts,
-) -> Result<CompIds, OutOfMemory>
+fn differing(alloc: Global, own: &ImageParts, image: &ImageParts) -> Result<CompIds, OutOfMemory>
     requires { length own.now.comps ≤ most_compartments }
     ensures { IfOk result (λ given. given ≡ differing own.now image.now) }
 {

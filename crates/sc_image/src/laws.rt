@@ -1,6 +1,7 @@
 //! Laws of images and of the machine that runs them. Each law is the contract of a function with nothing to do, for the
 //! proofs of callers.
 
+ghost use Rattle.sc_image.specs.Prelude.{BadOrBegins, BadPartIsBad, BytesBeginWithOne, PartIsWhole};
 ghost use Rattle.sc_image.specs.Prelude.{BadOrImage, BytesNameOneImage, CallsComeBack, EmittingComposes, EntersByEvent};
 ghost use Rattle.sc_image.specs.Prelude.{FollowsFromOwn, ImageInMemory, IsIsolating, LeavesData, LeavesOthers};
 ghost use Rattle.sc_image.specs.Prelude.{LegalByWords};
@@ -22,6 +23,25 @@ pub fn written_is_read()
 #[tactic(auto, using(crate::proofs::Whole::bad_or_image_each))]
 pub fn bad_or_image()
     ensures { BadOrImage }
+{}
+
+/// Bytes begin with one image at most.
+pub fn one_beginning()
+    ensures { BytesBeginWithOne }
+{}
+
+/// Bytes begin with an image, or there is one cause why they begin with none.
+#[tactic(auto, using(crate::proofs::Whole::bad_or_begins_each))]
+pub fn bad_or_begins()
+    ensures { BadOrBegins }
+{}
+
+/// Where bytes end with the image that they begin with, it is the image that is read of all of them. A cause why they
+/// begin with none is the cause why they are none.
+#[tactic(auto, using(crate::proofs::Whole::bad_part_is_bad_each))]
+pub fn part_is_whole()
+    ensures same { PartIsWhole }
+    ensures bad { BadPartIsBad }
 {}
 
 /// A run's trace is one that the image's interfaces allow.

@@ -1,7 +1,8 @@
-//! Images read from their bytes. After the first two, each function takes a field from the start of the bytes that are
-//! left.
+//! Images read from their bytes. After the public functions, each function takes a field from the start of the bytes
+//! that are left.
 
-ghost use Rattle.sc_image.specs.Prelude.{AreBytesOf, bad, image_in, most_flags, parts_at, read_comp, read_exports};
+ghost use Rattle.sc_image.specs.Prelude.{AreBytesOf, BeginWith, bad, bad_part, image_at, image_in, most_flags};
+ghost use Rattle.sc_image.specs.Prelude.{parts_at, read_comp, read_exports};
 ghost use Rattle.sc_image.specs.Prelude.{version_at};
 ghost use Rattle.sc_fields.specs.Prelude.{Gives, fields_at, number_that};
 ghost use Rattle.sc_base.specs.Prelude.{is_between, most_compartments};
@@ -43,16 +44,40 @@ pub fn read_image(alloc: Global, bytes: &[u8]) -> Result<Image, ImageFault>
     Ok(Image::new(parts))
 }
 
+/// The image with which the bytes begin and the place after it, or why they begin with none: the cause of the first
+/// field, in the order of the file, that is missing, incomplete or bad. The bytes after the image are not looked at.
+pub fn read_image_part(alloc: Global, bytes: &[u8]) -> Result<(Image, usize), ImageFault>
+    ensures image { IfOk result (λ read. BeginWith read.0 read.1 bytes.now) }
+    ensures good { OnOk result (bad_part bytes.now ≡ None) }
+    ensures bad { (cause : BadImage) → IsErrOf result (Bad cause) → bad_part bytes.now ≡ Some cause }
+{
+    let mut rest = bytes;
+    let parts = image_at(alloc, &mut rest)?;
+    let place = bytes.len() - rest.len();
+    Ok((Image::new(parts), place))
+}
+
 #[tactic(auto, unfolding(crate::specs::Reading::image_in))]
 fn image_of(alloc: Global, bytes: &[u8]) -> Result<ImageParts, BadField>
     ensures { Gives (λ parts. parts) result (image_in bytes.now) }
 {
     let mut rest = bytes;
-    mark_at(BadImage::Mark, b"SCIM", &mut rest)?;
-    let version = version_at(&mut rest)?;
-    let parts = parts_at(alloc, version, &mut rest)?;
-    let is_whole = rest.is_empty() && keeps_rules(alloc, &parts)?;
-    if !is_whole {
+    let parts = image_at(alloc, &mut rest)?;
+    if !rest.is_empty() {
+        return Err(BadField::Bad(BadImage::Whole));
+    }
+    Ok(parts)
+}
+
+#[tactic(auto, unfolding(crate::specs::Reading::image_at))]
+fn image_at(alloc: Global, bytes: &mut &[u8]) -> Result<ImageParts, BadField>
+    ensures { Gives (λ x. (x, bytes.new.now)) result (image_at bytes.old.now) }
+{
+    mark_at(BadImage::Mark, b"SCIM", bytes)?;
+    let version = version_at(bytes)?;
+    let parts = parts_at(alloc, version, bytes)?;
+    let keeps = keeps_rules(alloc, &parts)?;
+    if !keeps {
         return Err(BadField::Bad(BadImage::Whole));
     }
     Ok(parts)
