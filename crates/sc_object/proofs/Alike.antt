@@ -1,7 +1,7 @@
 -- Whether two objects say the same of the program, and what it says.
 use Rattle.sc_object.proofs.Common.{Face, FaceExport, ObjectParts, and_from, and_parts, eq-eqb, eqb-true}
 use Rattle.sc_object.proofs.Common.{is_same_export, is_same_face, is_same_flag, is_same_import, is_same_name}
-use Rattle.sc_object.proofs.Common.{is_same_program, pointwise, subst, true, ◌==◌, ◌≡◌}
+use Rattle.sc_object.proofs.Common.{is_same_program, pointwise, refl, subst, true, ◌==◌, ◌≡◌}
 use Rattle.sc_image.proofs.Alike.{all_same, flag_is, import_is, name_is, same_flag, same_import, same_lists, same_name}
 
 same_export : (export : FaceExport) → is_same_export export export ≡ true
