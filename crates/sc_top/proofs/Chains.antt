@@ -20,9 +20,6 @@ use Rattle.sc_top.proofs.Rising.{one_rising}
 -- THE TEXTS
 
 module _ (source : SourceParts) (options : RunOptions) (explanation : Explanation) where
-  abbrev inputs : List ℕ
-  inputs = map word_of options.inputs
-
   -- where the text isn't too long to be compiled, no text of the chain is too long to be read
   shorts : (image : Option ImageParts) → IsExplainedOn image source options explanation →
       length source.bytes ≤ 1048576 → (set : ℕ → Bool) →
@@ -32,10 +29,11 @@ module _ (source : SourceParts) (options : RunOptions) (explanation : Explanatio
 
   -- the links lead on from the text in which the given compartments perform
   pub chain_from_given : (image : Option ImageParts) → IsExplainedOn image source options explanation →
-      IsChainFrom source inputs options.steps explanation.trace explanation.given 0 explanation.links
+      IsChainFrom source (map word_of options.inputs) options.steps explanation.trace explanation.given 0
+      explanation.links
   chain_from_given None is =
-      subst (λ given. IsChainFrom source inputs options.steps explanation.trace given 0 explanation.links)
-      (sym is.nobody_given) is.chain.chain
+      subst (λ given. IsChainFrom source (map word_of options.inputs) options.steps explanation.trace given 0
+      explanation.links) (sym is.nobody_given) is.chain.chain
   chain_from_given (Some image) is = is.account.chain.chain
 
 -- a text that was read, with an account

@@ -115,8 +115,8 @@ pub text_cause : (limit : ℕ) (command : Command) (bytes : List ℕ) (program :
     Accepts bytes program → section_of command ≡ None → IsTrue (compiles command) → IsCompiling program f →
     IsCauseIn (Text limit) command bytes f
 text_cause limit command bytes program f accepted plain compiled why =
-    unfit_cause (Text limit) command bytes bytes program f (λ Q q. q) accepted (asks_none command plain program) compiled
-    why
+    unfit_cause (Text limit) command bytes bytes program f (λ Q q. q) accepted (asks_none command plain program)
+    compiled why
 
 -- why a program isn't compiled is why no image is explained by it
 pub compiling_another : (program other : ProgramTree) (image : ImageParts) (f : Failure) → program ≡ other →

@@ -75,6 +75,7 @@ fn status_by(outcome: Result<(), Failure>) -> Status
     }
 }
 
+#[tactic(auto, using(crate::proofs::Answers::read_says, crate::proofs::Answers::output_says))]
 fn answer<S: Source, O: Sink>(
     alloc: Global,
     words: &[String],
