@@ -15,7 +15,7 @@ import tempfile
 from sections import TOP, commands, count, program, start
 
 PAGE = "docs/TOOLS.md"
-CHECKED = re.compile(r"^secomp: (this program has run-time checks|buil[dt]+(ing)? ).*\n", re.M)
+CHECKED = re.compile(r"^secomp: (this program has run-time checks|building |built ).*\n", re.M)
 WANTING = re.compile(r"campaign: this takes GNU parallel.*\n")
 
 
