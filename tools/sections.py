@@ -102,6 +102,10 @@ def count(answers):
 
 def start(main, usage):
     """Runs a tool that takes one word at most, or says how it is used."""
-    if len(sys.argv) > 2 or sys.argv[1:2] in (["-h"], ["--help"]):
-        raise SystemExit(usage)
-    sys.exit(main(*sys.argv[1:]))
+    words = sys.argv[1:]
+    if words in (["-h"], ["--help"]):
+        print(usage)
+        sys.exit(0)
+    if len(words) > 1 or words and words[0].startswith("-"):
+        stop(usage)
+    sys.exit(main(*words))
