@@ -1,5 +1,6 @@
-"""The memory of a run, by docs/LANGUAGE.md, with what is known of each block: whose it is, where it was made and freed.
-A value is a word from 0 to 2^32 - 1, NULL, or a pointer: a pair of a block and an index in cells. Nothing here is proved."""
+"""The memory of a run, by docs/LANGUAGE.md, with what is known of each block: whose it is, where it was made and
+freed. A value is a word from 0 to 2^32 - 1, NULL, or a pointer: a pair of a block and an index in cells. Nothing here
+is proved."""
 ZONE_WORDS = 65536
 NULL = "null"
 
@@ -23,7 +24,8 @@ class Block:
         """What a block is, in words; lines of its section are counted in the file."""
         count = f"{len(self.cells)} cell{'s' * (len(self.cells) != 1)}"
         if self.is_heap:
-            text = f"a block of {count} that {self.function} of {self.comp} allocated at line {self.line + first_line - 1}"
+            line = self.line + first_line - 1
+            text = f"a block of {count} that {self.function} of {self.comp} allocated at line {line}"
         elif self.function:
             text = f"{self.name}, a variable of {count} of {self.function} in {self.comp}"
         else:

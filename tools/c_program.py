@@ -1,8 +1,9 @@
 """A text as the tools see it: its sections' trees, and the first faults that they find. Nothing here is proved; what is
 refused, `secomp check` says, and a tool believes these faults only where they begin as that one says."""
-from c_check import Checker, shown, similar
+from c_check import Checker
 from c_tokens import Fault, tokens
 from c_tree import parse
+from c_types import shown, similar
 from sections import sections
 
 PHASES = ["lex", "syntax", "names", "types", "interface", "count"]
@@ -79,19 +80,23 @@ class Program:
         if name == "main":
             self.say(part, node, "main isn't exported: the run begins with it")
         elif name not in part.checker.functions:
-            self.say(part, node, f"an exported function is defined in this section, and {name} isn't{similar(name, part.checker.functions)}", [name])
+            self.say(part, node, f"an exported function is defined in this section, and {name} "
+                                 f"isn't{similar(name, part.checker.functions)}", [name])
         else:
             if name.startswith("bt_"):
-                self.say(part, node, f"no name that crosses begins with bt_, as {name} does: explain makes such names", [name])
+                self.say(part, node, f"no name that crosses begins with bt_, as {name} does: explain makes such "
+                                     "names", [name])
             self.crossing(part, part.checker.functions[name])
 
     def crossing(self, part, head):
         """Only integers cross."""
         for name, of, _ in head.params:
             if of not in ("int", "unsigned"):
-                self.say(part, head, f"what crosses is int or unsigned int: the parameter {name or ''} of {head.name} is {shown(of)}", [head.name])
+                self.say(part, head, f"what crosses is int or unsigned int: the parameter {name or ''} of {head.name} "
+                                     f"is {shown(of)}", [head.name])
         if head.result not in ("int", "unsigned", "void"):
-            self.say(part, head, f"what crosses is int or unsigned int, the result one of these or void: that of {head.name} is {shown(head.result)}", [head.name])
+            self.say(part, head, f"what crosses is int or unsigned int, the result one of these or void: that of "
+                                 f"{head.name} is {shown(head.result)}", [head.name])
 
     def imported(self, part, node):
         owner, name = node.names
@@ -102,7 +107,8 @@ class Program:
             result, params = ENVIRONMENT[name]
         elif self.part(owner) is None:
             names = [other.name for other in self.parts]
-            self.say(part, node, f"no section is named {owner}, so that nothing is exported there{similar(owner, names)}", [owner])
+            self.say(part, node, f"no section is named {owner}, so that nothing is exported "
+                                 f"there{similar(owner, names)}", [owner])
             return
         else:
             exporter = self.part(owner)
@@ -111,7 +117,8 @@ class Program:
                 return
             if not any(other.names == [name] for other in exporter.tree.exports):
                 names = [other.names[0] for other in exporter.tree.exports]
-                self.say(part, node, f"an imported function is exported there, and {owner} doesn't export {name}{similar(name, names)}", [name])
+                self.say(part, node, f"an imported function is exported there, and {owner} doesn't export "
+                                     f"{name}{similar(name, names)}", [name])
                 return
             head = exporter.checker.functions.get(name)
             if head is None:
@@ -125,6 +132,8 @@ class Program:
             self.say(part, node, f"this section defines {name}, which it imports from {owner}", [name])
         head = part.checker.prototypes.get(name)
         if head is None:
-            self.say(part, node, f"an import has a prototype in this section: `{shown(result)} {name}({', '.join(map(shown, params)) or 'void'});` is missing", [name])
+            self.say(part, node, f"an import has a prototype in this section: `{shown(result)} "
+                                 f"{name}({', '.join(map(shown, params)) or 'void'});` is missing", [name])
         elif (head.result, [of for _, of, _ in head.params]) != (result, params):
-            self.say(part, head, f"declarations of the function agree, here and in {owner}: {shown(result)} {name}({', '.join(map(shown, params)) or 'void'}) there", [name])
+            self.say(part, head, f"declarations of the function agree, here and in {owner}: {shown(result)} "
+                                 f"{name}({', '.join(map(shown, params)) or 'void'}) there", [name])

@@ -1,8 +1,8 @@
 """What C programmers write where this language has something else: the likeliest reason for a token that can't stand
 where it does. Nothing here is proved."""
 
-TYPES = {"char", "short", "long", "float", "double", "_Bool", "_Complex", "bool", "size_t", "ssize_t", "uint8_t", "uint16_t",
-         "uint32_t", "uint64_t", "int8_t", "int16_t", "int32_t", "int64_t", "u8", "u16", "u32", "uintptr_t", "FILE"}
+TYPES = set("""char short long float double _Bool _Complex bool size_t ssize_t uint8_t uint16_t uint32_t uint64_t int8_t
+int16_t int32_t int64_t u8 u16 u32 uintptr_t FILE""".split())
 QUALIFIERS = {"static", "extern", "register", "auto", "inline", "const", "volatile", "restrict"}
 OTHERS = {
     "typedef": "no typedef: write the type itself",
@@ -23,9 +23,11 @@ def declaration_reason(tokens, at, is_parameter=False):
     """Why no declaration, member or parameter begins here: a reason, and the token."""
     token = tokens[at]
     if token.text in QUALIFIERS:
-        return f"no storage classes and qualifiers: leave `{token.text}` out; what isn't exported is private already", token
+        return (f"no storage classes and qualifiers: leave `{token.text}` out; what isn't exported is private already",
+                token)
     if token.text in TYPES:
-        return f"no type {token.text}: of types there are int, unsigned int, pointers and structs; all integers have 32 bits", token
+        return (f"no type {token.text}: of types there are int, unsigned int, pointers and structs; all integers have "
+                "32 bits"), token
     if token.text in OTHERS:
         return OTHERS[token.text], token
     if token.text == "void":
@@ -41,7 +43,8 @@ def declaration_reason(tokens, at, is_parameter=False):
     if token.text in ("if", "while", "for", "return"):
         return f"`{token.text}` stands in a function; a `}}` before may be one too many", token
     if is_parameter:
-        return "a parameter begins with its type" if token.text != ")" else "a parameter is missing behind the comma", token
+        return ("a parameter is missing behind the comma" if token.text == ")" else "a parameter begins with its type",
+                token)
     return f"a declaration begins with int, unsigned int, struct or void, and not with `{token.text}`", token
 
 

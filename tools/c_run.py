@@ -1,11 +1,11 @@
-"""Evaluates a text by docs/LANGUAGE.md, and tells more of a blame than `secomp meaning` does. It is a second evaluation,
-written for the tools; a test compares it with the program's. Nothing here is proved."""
+"""Evaluates a text by docs/LANGUAGE.md, and tells more of a blame than `secomp meaning` does. It is a second
+evaluation, written for the tools; a test compares it with the program's. Nothing here is proved."""
 import sys
 import threading
 
-from c_check import decayed, is_null, is_pointer, whole
+from c_expressions import Node
 from c_memory import NULL, Blame, Block, Zones, free, load, moved, store
-from c_tree import Node
+from c_types import decayed, is_null, is_pointer, whole
 from c_words import before, between, is_true, of_pointers, signed
 from command import Refused
 
@@ -64,7 +64,8 @@ class Evaluation:
         if isinstance(of, tuple):
             return self.zeros(part, of[0]) * of[1]
         if of.startswith("struct ") and not is_pointer(of):
-            return [cell for member in part.checker.structs[of[len("struct "):]].values() for cell in self.zeros(part, member)]
+            members = part.checker.structs[of[len("struct "):]].values()
+            return [cell for member in members for cell in self.zeros(part, member)]
         return [NULL if is_pointer(of) else 0]
 
     def begin_global(self, part, node):
@@ -129,7 +130,8 @@ class Evaluation:
             frame.variables[name] = Block(part.name, name, [value], token.line, function.name)
         for local in function.locals:
             of = whole(local.type, local.length)
-            frame.variables[local.name] = Block(part.name, local.name, [None] * self.cells(part, of), local.line, function.name)
+            frame.variables[local.name] = Block(part.name, local.name, [None] * self.cells(part, of), local.line,
+                                                function.name)
         value = self.body(frame, function)
         for block in frame.variables.values():
             block.ended = function.close

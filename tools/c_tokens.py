@@ -4,21 +4,22 @@ import re
 from collections import namedtuple
 
 Token = namedtuple("Token", "kind text line column")
-KEYWORDS = set("""auto break case char const continue default do double else enum extern float for goto if inline int long
-register restrict return short signed sizeof static struct switch typedef union unsigned void volatile while _Alignas _Alignof
-_Atomic _Bool _Complex _Generic _Imaginary _Noreturn _Static_assert _Thread_local malloc free""".split())
+KEYWORDS = set("""auto break case char const continue default do double else enum extern float for goto if inline int
+long register restrict return short signed sizeof static struct switch typedef union unsigned void volatile while
+_Alignas _Alignof _Atomic _Bool _Complex _Generic _Imaginary _Noreturn _Static_assert _Thread_local malloc free""".split())
 TYPE_WORDS = {"int", "signed", "unsigned", "struct"}
-MARKS = sorted("""+ - * / % << >> < > <= >= == != & ^ | && || ! ~ = += -= *= /= %= <<= >>= &= ^= |= ++ -- . -> ( ) [ ] { } ,
-;""".split(), key=len, reverse=True)
-PARTS = re.compile(r"""(?P<blank>[ \t\n\r\v\f]+)|(?P<comment>/\*.*?\*/|//[^\n]*)
-|(?P<directive>^\#pragma[ \t\r\v\f]+(?:export[ \t\r\v\f]+[A-Za-z_]\w*|import[ \t\r\v\f]+[A-Za-z_]\w*[ \t\r\v\f]+[A-Za-z_]\w*)[ \t\r\v\f]*$)
+MARKS = sorted("""+ - * / % << >> < > <= >= == != & ^ | && || ! ~ = += -= *= /= %= <<= >>= &= ^= |= ++ -- . -> ( ) [ ]
+{ } , ;""".split(), key=len, reverse=True)
+BLANKS, WORD = r"[ \t\r\v\f]+", r"[A-Za-z_]\w*"
+PARTS = re.compile(rf"""(?P<blank>[ \t\n\r\v\f]+)|(?P<comment>/\*.*?\*/|//[^\n]*)
+|(?P<directive>^\#pragma{BLANKS}(?:export{BLANKS}{WORD}|import{BLANKS}{WORD}{BLANKS}{WORD})[ \t\r\v\f]*$)
 |(?P<number>(?:0[xX][0-9a-fA-F]+|0[0-7]*|[1-9][0-9]*)[uU]?(?![A-Za-z0-9_]))|(?P<name>[A-Za-z_][A-Za-z0-9_]*)
 |(?P<mark>""" + "|".join(map(re.escape, MARKS)) + ")", re.X | re.S | re.M | re.A)
 
 
 class Fault(Exception):
-    """Why a text is refused: the phase, the line of the section, the column from 1, what to write instead, and the names
-    that it is about."""
+    """Why a text is refused: the phase, the line of the section, the column from 1, what to write instead, and the
+    names that it is about."""
 
     def __init__(self, phase, line, column, text, names=()):
         super().__init__(text)
@@ -51,7 +52,8 @@ def check_token(kind, said, line, column):
     if kind == "number":
         most = 4294967295 if said[-1] in "uU" or said[0] == "0" else 2147483647
         if value_of(said) > most:
-            raise Fault("lex", line, column, f"{said} is too large: a decimal integer without u is at most 2147483647, any "
+            raise Fault("lex", line, column, f"{said} is too large: a decimal integer without u is at most "
+                                             "2147483647, any "
                         "other at most 4294967295")
 
 
@@ -75,5 +77,6 @@ def lex_reason(rest):
     if rest[0] == ":":
         return "no labels, no switch, no bit fields: a colon is no token"
     if re.match(r"[0-9]", rest):
-        return f"{re.match(r'[0-9A-Za-z_.]+', rest).group()} is no number of this language: suffixes are u; no binary or floating ones"
+        word = re.match(r"[0-9A-Za-z_.]+", rest).group()
+        return f"{word} is no number of this language: suffixes are u; no binary or floating ones"
     return f"{rest[0]!r} is a character that stands in no token"

@@ -70,7 +70,8 @@ def is_same(p, q):
         if block.ended is not None:
             raise Blame("Dangling", "", block, index)
         if index >= len(block.cells):
-            raise Blame("BadPointer", "a pointer one past the end is compared with one into another block", block, index)
+            raise Blame("BadPointer", "a pointer one past the end is compared with one into another block", block,
+                        index)
     return False
 
 

@@ -8,7 +8,8 @@ import os
 import sys
 
 NOTHING, FOUND, BAD = 0, 1, 2
-UNPROVED = "Nothing of this is proved. The status is 0 where nothing was found, 1 where something was, 2 for bad use or input."
+UNPROVED = ("Nothing of this is proved. The status is 0 where nothing was found, 1 where something was, 2 for bad use "
+            "or input.")
 MOST_STEPS, MOST_EVENTS, MOST_NUMBERS = 16_777_216, 4096, 65536
 LEAST_VALUE, MOST_VALUE = -2 ** 31, 2 ** 31 - 1
 
@@ -51,7 +52,8 @@ def check_value(word):
 def add_bounds(made):
     """The options of a run that bound it."""
     made.add_argument("--steps", type=number(0, MOST_STEPS), help="the machine's steps, at most 16,777,216")
-    made.add_argument("--events", type=number(0, MOST_EVENTS), help="the events of a run, at most 4,096; each input is one")
+    made.add_argument("--events", type=number(0, MOST_EVENTS),
+                      help="the events of a run, at most 4,096; each input is one")
 
 
 def bounds(asked):

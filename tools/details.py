@@ -20,7 +20,8 @@ class Details:
         """The text after so many replacements; the program's own is the first."""
         if not links:
             return self.data
-        words = ["explain", f"--steps={MOST_STEPS}", f"--events={max(len(self.events), 1)}", f"--show={links}", *as_words(self.values)]
+        words = ["explain", f"--steps={MOST_STEPS}", f"--events={max(len(self.events), 1)}", f"--show={links}",
+                 *as_words(self.values)]
         out, said, status = secomp(words, self.data)
         if status:
             raise Refused(f"{self.path}: {said.strip()}")
@@ -46,10 +47,12 @@ class Details:
         if ran.blame is None:
             if wanted is None:
                 return
-            raise Refused(f"the tool's own evaluation ends otherwise: {ran.stop}; the report isn't of this text, or the tool is wrong")
+            raise Refused(f"the tool's own evaluation ends otherwise: {ran.stop}; the report isn't of this text, or "
+                          "the tool is wrong")
         found = (ran.frames[-1].part.name, ran.blame.cause, ran.blamed_line)
         if wanted not in (None, found) or ran.events != self.events[:len(ran.events)]:
-            raise Refused(f"the tool's own evaluation ends otherwise: {ran.stop} after {len(ran.events)} events; the report isn't of "
+            raise Refused(f"the tool's own evaluation ends otherwise: {ran.stop} after {len(ran.events)} events; the "
+                          "report isn't of "
                           "this text, or the tool is wrong")
         for line in self.lines(ran):
             print(f"    {line}")
@@ -87,5 +90,6 @@ class Details:
             if (part.name, line) not in shown:
                 shown.add((part.name, line))
                 at = line + self.first.get(part.name, 1) - 1
-                print(f"{self.path}:{at}: after event {after}: the index {index} leaves {name} of {length} elements and stays in "
+                print(f"{self.path}:{at}: after event {after}: the index {index} leaves {name} of {length} elements "
+                      "and stays in "
                       f"{block.name or 'its block'}: no fault here, and one in C")

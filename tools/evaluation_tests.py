@@ -1,6 +1,7 @@
 #!/usr/bin/env python3
-"""Compares the tools' own evaluation, which tools/where --full shows, with the program's meaning on 300 texts from seeds:
-270 of bench/outsider_texts.py, which have faults of all causes, and 30 of `secomp make`. Events and ends must be equal.
+"""Compares the tools' own evaluation, which tools/where --full shows, with the program's meaning on 300 texts from
+seeds: 270 of bench/outsider_texts.py, which have faults of all causes, and 30 of `secomp make`. Events and ends must
+be equal.
 
 The last line counts; the status is 1 if one differed.
 """
@@ -34,7 +35,9 @@ def differs(seed):
         return f"seed {seed}: {program.faults[0].text}; the program says {said or 'nothing'}"
     ran = Evaluation(program, values, TURNS).run()
     wanted = out.decode().splitlines()
-    return "" if [*ran.events, ran.stop] == wanted else f"seed {seed}: {ran.stop} after {len(ran.events)} events, and the program has {wanted[-1:]}"
+    if [*ran.events, ran.stop] == wanted:
+        return ""
+    return f"seed {seed}: {ran.stop} after {len(ran.events)} events, and the program has {wanted[-1:]}"
 
 
 def main():

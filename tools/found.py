@@ -34,7 +34,8 @@ def described(path, text, run, words=()):
     if run.stop != "stop ended":
         if run.blame:
             line, stands = place(text, run.blame)
-            yield run.stop, path, line, f"the machine stops where {run.blame.name} is blamed, {run.blame.cause}: {stands}"
+            yield (run.stop, path, line,
+                   f"the machine stops where {run.blame.name} is blamed, {run.blame.cause}: {stands}")
         else:
             yield run.stop, path, 1, f"the run doesn't end: {advice(run.stop, words, len(run.events)) or run.stop}"
     for link in run.links:
@@ -44,7 +45,8 @@ def described(path, text, run, words=()):
         if verdict.state is None:
             event = run.events[verdict.after] if verdict.after < len(run.events) else "?"
             yield (verdict.finding(), verdict.policy.path, verdict.line(),
-                   f"{verdict.policy.name} is violated by event {verdict.after + 1}, `{event}`, of {verdict.name}, {meant(verdict)}")
+                   f"{verdict.policy.name} is violated by event {verdict.after + 1}, `{event}`, of {verdict.name}, "
+                   f"{meant(verdict)}")
 
 
 def meant(verdict):
@@ -67,14 +69,16 @@ def as_object(path, text, run):
                       "file_line": line, "source": stands})
     verdicts = [{"policy": it.policy.name, "file": it.policy.path, "holds": it.state is not None, **(
         {"state": it.state} if it.state is not None else
-        {"after": it.after, "by": it.name, "rule": it.rule, "file_line": it.line(), "compromised": it.kind == "compromised"})}
+        {"after": it.after, "by": it.name, "rule": it.rule, "file_line": it.line(),
+         "compromised": it.kind == "compromised"})}
         for it in run.verdicts]
     blame = None
     if run.blame:
         line, stands = place(text, run.blame)
         blame = {"compartment": run.blame.name, "cause": run.blame.cause, "line": run.blame.line, "file_line": line,
                  "source": stands}
-    return {"program": path, "input": run.name, "values": run.values, "events": len(run.events), "stop": run.stop[len("stop "):],
+    return {"program": path, "input": run.name, "values": run.values, "events": len(run.events),
+            "stop": run.stop[len("stop "):],
             "blame": blame, "chain": links, "verdicts": verdicts, "findings": run.findings(), "allowed": run.allowed,
             "passed": len(run.allowed) == len(run.findings())}
 

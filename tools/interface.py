@@ -27,7 +27,7 @@ class Interface:
                 self.main = words[0]
 
     def calls(self):
-        """Each call that can come between compartments: from, to, function, number of arguments, whether it has a result."""
+        """Each call that can come between compartments: from, to, function, number of arguments, if it has a result."""
         for caller, imports in self.imports.items():
             for callee, function in imports:
                 if callee != "Env":

@@ -76,11 +76,15 @@ class Indices:
         name = node.base.name
         if index.kind == "literal":
             if index.value >= of[1]:
-                what = ("stays within its variable, which is no fault here, and one in C" if is_inner else "is blamed where it is used")
-                self.found.append((line, f"{name} has {of[1]} elements, and the index {index.value} is past them: it {what}"))
+                what = ("stays within its variable, which is no fault here, and one in C" if is_inner else
+                        "is blamed where it is used")
+                self.found.append((line, f"{name} has {of[1]} elements, and the index {index.value} is past them: it "
+                                         f"{what}"))
         elif is_inner and not self.is_bounded(index):
-            self.found.append((line, f"the index of {name}, which lies within a larger variable, isn't compared before: past "
-                               f"{of[1]} elements it may stay within the variable, which is no fault here, and one in C"))
+            self.found.append((line, f"the index of {name}, which lies within a larger variable, isn't compared "
+                                     "before: past "
+                               f"{of[1]} elements it may stay within the variable, which is no fault here, and one in "
+                               "C"))
 
     def is_bounded(self, index):
         if index.kind == "binary" and index.op in ("&", "%") and "literal" in (index.left.kind, index.right.kind):

@@ -3,7 +3,6 @@
 reason that it must name first, and at which line. The last line counts them.
 """
 import argparse
-import os
 import re
 import subprocess
 import sys
@@ -134,11 +133,13 @@ MISTAKES = [
     (MAIN, "  int *p; p = NULL;", 3, "NULL isn't declared: null is the literal 0"),
     (MAIN, "  int count; cuont = 1;", 3, "cuont isn't; count is meant?"),
     (MAIN, "  output(1);", 3, "#pragma import Env output"),
-    (TWO.replace("Net put", "Nets put", 1), "int put(int i);", 2, "no section is named Nets, so that nothing is exported there; Net"),
+    (TWO.replace("Net put", "Nets put", 1), "int put(int i);", 2,
+     "no section is named Nets, so that nothing is exported there; Net"),
     (TWO.replace("Net put", "Net putt", 1), "int putt(int i);", 2, "Net doesn't export putt; put is meant?"),
     (FILE, "#pragma export bt_f\nint bt_f(void) { return 1; }", 2, "no name that crosses begins with bt_"),
     (FILE, "struct S { int a; };\nint f(struct S *s) { return s.a; }", 3, "write -> before a"),
-    (FILE, "struct S { int count; };\nint f(struct S *s) { return s->cuont; }", 3, "has no member cuont; count is meant?"),
+    (FILE, "struct S { int count; };\nint f(struct S *s) { return s->cuont; }", 3,
+     "has no member cuont; count is meant?"),
     (MAIN, "  int a; a = 1; }\n  a = 2;", 4, "a type is missing before a"),
 ]
 

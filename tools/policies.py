@@ -187,8 +187,10 @@ class Reader:
         to = rule.state
         if same:
             if same[0].condition or not all(b in (a, "*") for a, b in zip(rule.names, same[0].names)):
-                self.refuse(f"`and` can't be put into the plain form here, as the rule of line {same[0].line} takes some of "
-                            "the same events: put that rule into a state of its own, or give it no condition", rule.line)
+                self.refuse(f"`and` can't be put into the plain form here, as the rule of line {same[0].line} takes "
+                            "some of "
+                            "the same events: put that rule into a state of its own, or give it no condition",
+                            rule.line)
             to = same[0].to
         argument, operator, value = first
         return Rule(rule.state, rule.kind, rule.names, (argument, OPPOSITE[operator], value), to, rule.line)

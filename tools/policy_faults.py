@@ -39,7 +39,7 @@ class Finder:
         return all(wanted in ("*", name) for wanted, name in zip(rule.names, names))
 
     def events(self, rule):
-        """The events of the program that fit a rule but for the values: the names, and how many values such an event has."""
+        """The events of the program that fit a rule but for the values, by their names."""
         if rule.kind == "call":
             fits = [((a, b, f), count) for a, b, f, count, _ in self.calls]
         elif rule.kind == "ret":
@@ -64,7 +64,8 @@ class Finder:
         if rule.kind == "end":
             return f"the run ends in {self.interface.main}, whose main it is, and not in {rule.names[0]}"
         function = "input" if rule.kind == "in" else "output"
-        return f"no compartment imports {function}" if rule.names[0] == "*" else f"{rule.names[0]} doesn't import {function}"
+        who = "no compartment imports" if rule.names[0] == "*" else f"{rule.names[0]} doesn't import"
+        return f"{who} {function}"
 
     def no_call(self, rule):
         if rule.kind == "ret":
@@ -112,7 +113,8 @@ class Finder:
     def unreachable(self, events):
         reached, grew = {self.policy.initial()}, True
         while grew:
-            more = {rule.to for rule, matched in zip(self.policy.rules, events) if matched and rule.to and rule.state in reached}
+            more = {rule.to for rule, matched in zip(self.policy.rules,
+                                                     events) if matched and rule.to and rule.state in reached}
             grew = not more <= reached
             reached |= more
         for name, line in self.policy.states:

@@ -96,11 +96,13 @@ def place(text, link):
 
 def advice(stop, words, count):
     """What to do where a run ends early: which option to raise, or that the most is reached."""
-    given = {word.partition("=")[0]: int(word.partition("=")[2]) for word in words if word.startswith(("--steps=", "--events="))}
+    given = {word.partition("=")[0]: int(word.partition("=")[2]) for word in words if word.startswith(("--steps=",
+                                                                                                       "--events="))}
     if stop == "stop events":
         if given.get("--events", 1024) < MOST_EVENTS:
             return f"raise --events: this run may have {given.get('--events', 1024):,}, and {MOST_EVENTS:,} is the most"
-        return f"a run has at most {MOST_EVENTS:,} events, inputs among them: split the input, or read more than one number at once"
+        return (f"a run has at most {MOST_EVENTS:,} events, inputs among them: split the input, or put more than one "
+                "number into each input")
     if stop in ("stop steps", "stop turns"):
         most = given.get("--steps", 1_000_000)
         if most < MOST_STEPS:

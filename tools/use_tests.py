@@ -1,6 +1,7 @@
 #!/usr/bin/env python3
-"""Tests how the tools are used: for each bad use and bad input the status 2 and a sentence, and for good ones the status
-and a part of what is written. No traceback may come, also where the reader goes away or the checkout can't be written.
+"""Tests how the tools are used: for each bad use and bad input the status 2 and a sentence, and for good ones the
+status and a part of what is written. No traceback may come, also where the reader goes away or the checkout can't be
+written.
 
 The last line counts; the status is 1 if a test failed.
 """
@@ -29,14 +30,17 @@ FILES = {
     "function.policy": "policy P\nstate s\non s ret Net put Main deny\npolicy end\n",
     "friendly.policy": "# what Net may be asked\r\npolicy Bounds\r\n\r\n  state all  // one\r\n"
                        "  on all call * Net put arg 1 < 0 or arg 1 > 3 deny\r\npolicy end\r\n"
-                       "policy Inside\nstate a\non a call * Net put arg 1 >= 0 and arg 1 <= 3 to a\non a call * Net put deny\npolicy end\n",
+                       "policy Inside\nstate a\non a call * Net put arg 1 >= 0 and arg 1 <= 3 to a\non a call * Net "
+                       "put deny\npolicy end\n",
     "and.policy": "policy P\nstate a\nstate b\non a call * Net put arg 1 > 0 and arg 2 > 0 to b\n"
                   "on a call * Net put arg 1 = 0 deny\npolicy end\n",
     "allow": "line 2: replace Parser OutOfBounds line 15  # known\nstop trap owner 0x0130006c\n",
     "bad_allow": "replace Parser\n",
-    "inner.c": "#pragma compartment Main\nstruct lock { int pin[4]; int trusted; };\nstruct lock door;\nint main(void) {\n"
+    "inner.c": "#pragma compartment Main\nstruct lock { int pin[4]; int trusted; };\nstruct lock door;\nint "
+               "main(void) {\n"
                "  door.pin[4] = 1;\n  return door.trusted;\n}\n",
-    "eat.c": "#pragma compartment Main\n#pragma import Env input\nint input(void);\nint main(void) {\n  int a;\n  a = input();\n"
+    "eat.c": "#pragma compartment Main\n#pragma import Env input\nint input(void);\nint main(void) {\n  int a;\n  a = "
+             "input();\n"
              "  while (a != 0) { a = input(); }\n  return 0;\n}\n",
     "many": "".join(f"{number}\n" for number in range(1, 70001)),
     "frame.c": "#pragma compartment Main\nint main(void) {\n  int a[9000];\n  a[0] = 1;\n  return 0;\n}\n",
@@ -52,7 +56,8 @@ USES = [
                                               "3 runs, 2 with findings"]),
     (f"tools/check-runs {MESSAGES} lists --allow allow", 0, ["3 runs, 0 with findings"]),
     (f"tools/check-runs {MESSAGES} good --allow allow", 0, ["allow:1: no run shows this"]),
-    (f"tools/check-runs {STORE} empty_line friendly.policy", 1, ["friendly.policy:5: line 1: Bounds is violated by event 1, `call Main Net put 4 9`",
+    (f"tools/check-runs {STORE} empty_line friendly.policy", 1,
+     ["friendly.policy:5: line 1: Bounds is violated by event 1, `call Main Net put 4 9`",
                                                                "friendly.policy:10: line 1: Inside is violated"]),
     (f"tools/check-runs {MESSAGES} lists --allow bad_allow", 2, ["bad_allow:1: no finding"]),
     (f"tools/check-runs {MESSAGES} none", 2, ["no inputs"]),
@@ -61,7 +66,7 @@ USES = [
     (f"tools/check-runs {REFUSED} good", 2, ["refused.c:6: refused in the phase types"]),
     ("tools/check-runs frame.c empty_line", 2, ["too large: the frame of main of Main"]),
     (f"tools/check-runs {MESSAGES} good typo.policy", 2, ["typo.policy:3: the program has no compartment Keyz"]),
-    (f"tools/check-runs nosuch.c good", 2, ["nosuch.c: No such file"]),
+    ("tools/check-runs nosuch.c good", 2, ["nosuch.c: No such file"]),
     (f"tools/check-runs {MESSAGES} good --steps 99999999", 2, ["no number from 0 to 16777216"]),
     (f"tools/check-runs {MESSAGES} good --json --sarif", 2, ["not allowed with"]),
     ("tools/check-runs", 2, ["required"]),
@@ -78,7 +83,8 @@ USES = [
                                                   "hidden.policy:5: no event comes to this rule"]),
     (f"tools/policy {STORE} cut.policy", 2, ["cut.policy:1: the policy P has no line `policy end`"]),
     (f"tools/policy {STORE} function.policy", 2, ["a policy can't tell by which function is returned"]),
-    (f"tools/policy {STORE} and.policy", 2, ["and.policy:4: `and` can't be put into the plain form here, as the rule of line 5"]),
+    (f"tools/policy {STORE} and.policy", 2, ["and.policy:4: `and` can't be put into the plain form here, as the rule "
+                                             "of line 5"]),
     (f"tools/policy {STORE} {MESSAGES}", 2, ["outside a policy"]),
     ("tools/policy examples/store.c", 2, ["required"]),
     # campaign
@@ -104,7 +110,8 @@ USES = [
     ("tools/bytes folder; tools/bytes nosuch", 2, ["nosuch: No such file"]),
     # where
     (f"$S explain < {STORE} | tools/where {STORE} --full --number", 0,
-     ["    2  ret Net Main 9", "store.c:17: buf[i] = v;", "index 4 of buf, a global of 4 cells of Net", "called at line 8"]),
+     ["    2  ret Net Main 9", "store.c:17: buf[i] = v;", "index 4 of buf, a global of 4 cells of Net",
+      "called at line 8"]),
     (EXPLAIN + f"tools/where {MESSAGES} --full", 0, ["the run ended where Parser is blamed, OutOfBounds",
                                                      "index -524288 of fields, a global of 3 cells"]),
     (EXPLAIN + f"tools/where {MESSAGES} --in=-524288,5,0", 0, ["the run ended where Parser is blamed"]),
@@ -114,8 +121,10 @@ USES = [
     (EXPLAIN + "tools/where", 2, ["required"]),
     (EXPLAIN + f"tools/where {MESSAGES} | head -n 1", 0, ["call Main Parser next_kind"]),
     ("cat examples/policies/bounds.policy examples/store.c | $S judge | tools/where examples/store.c --full --policy "
-     "examples/policies/bounds.policy", 0, ["event 1: call Main Net put 4 9", "bounds.policy:4: on all call * Net put arg 1 > 3 deny"]),
-    ("$S explain < inner.c | tools/where --full inner.c", 0, ["inner.c:5: after event 0: the index 4 leaves pin of 4 elements"]),
+     "examples/policies/bounds.policy", 0,
+     ["event 1: call Main Net put 4 9", "bounds.policy:4: on all call * Net put arg 1 > 3 deny"]),
+    ("$S explain < inner.c | tools/where --full inner.c", 0,
+     ["inner.c:5: after event 0: the index 4 leaves pin of 4 elements"]),
     # why
     ("tools/why --lint inner.c", 1, ["inner.c:5: pin has 4 elements, and the index 4 is past them"]),
     ("tools/why inner.c", 0, ["inner.c: accepted"]),
@@ -133,15 +142,19 @@ USES = [
     (f"$S compile < {MESSAGES} | tools/image --pc 0x5", 2, ["0x00000005 is nobody's code"]),
     (f"$S compile < {MESSAGES} | head -c 90 | tools/image", 2, ["no image: it ends early"]),
     ("tools/image < good", 2, ["no image"]),
-    ("cat examples/policies/bounds.policy examples/store.c | $S judge | examples/draw", 0, ["against the policy, rule 2, clean"]),
+    ("cat examples/policies/bounds.policy examples/store.c | $S judge | examples/draw", 0,
+     ["against the policy, rule 2, clean"]),
     (f"$S explain < {STORE} | examples/draw --html nosuch.c", 2, ["nosuch.c: No such file"]),
     ("examples/draw < good", 2, ["draw: line 1"]),
     (f"$S explain < {STORE} | examples/draw --html {STORE} | head -n 1", 0, ["<!doctype html>"]),
 ]
-HELPED = ["tools/check-runs", "tools/policy", "tools/campaign", "tools/run", "tools/bytes", "tools/where", "tools/why", "tools/image",
-          "examples/draw", "tools/mistakes.py", "tools/tool_sessions.py", "tools/fast.py", "tools/fast_tests.py", "tools/wrapper_tests.py",
+HELPED = ["tools/check-runs", "tools/policy", "tools/campaign", "tools/run", "tools/bytes", "tools/where", "tools/why",
+          "tools/image",
+          "examples/draw", "tools/mistakes.py", "tools/tool_sessions.py", "tools/fast.py", "tools/fast_tests.py",
+          "tools/wrapper_tests.py",
           "tools/use_tests.py", "tools/evaluation_tests.py", "tools/campaign_batch.py"]
-USES += [(f"{'python3 ' * tool.endswith('.py')}{tool} --help", 0, ["usage" if not tool.endswith("sessions.py") else "tool_sessions.py"])
+USES += [(f"{'python3 ' * tool.endswith('.py')}{tool} --help", 0,
+          ["usage" if not tool.endswith("sessions.py") else "tool_sessions.py"])
          for tool in HELPED if tool != "tools/campaign_batch.py"]
 
 
@@ -172,13 +185,15 @@ def formats(folder):
     wrote, _ = run(f"tools/check-runs {MESSAGES} lists examples/policies/key.policy --json", folder)
     runs = [json.loads(line) for line in wrote.splitlines() if line.startswith("{")]
     right = [it["passed"] for it in runs] == [True, False, False] and runs[1]["chain"][0]["file_line"] == 76
-    yield "" if right and runs[2]["blame"]["cause"] == "OutOfBounds" and runs[0]["verdicts"][0]["holds"] else f"--json: {wrote}"
+    right = right and runs[2]["blame"]["cause"] == "OutOfBounds" and runs[0]["verdicts"][0]["holds"]
+    yield "" if right else f"--json: {wrote}"
     wrote, _ = run(f"tools/check-runs {MESSAGES} lists --sarif", folder)
     log = json.loads(wrote[wrote.index("{"):])
     results = log["runs"][0]["results"]
     rules = [rule["id"] for rule in log["runs"][0]["tool"]["driver"]["rules"]]
     lines = [it["locations"][0]["physicalLocation"]["region"]["startLine"] for it in results]
-    right = log["version"] == "2.1.0" and lines == [76, 76] and all(rules[it["ruleIndex"]] == it["ruleId"] for it in results)
+    named = all(rules[it["ruleIndex"]] == it["ruleId"] for it in results)
+    right = log["version"] == "2.1.0" and lines == [76, 76] and named
     yield "" if right else f"--sarif: {wrote}"
 
 

@@ -1,5 +1,5 @@
-"""What the line of a refusal looks like, and what to write instead: guesses for where tools/why's own reading of the text
-doesn't agree with the program's. Nothing here is proved."""
+"""What the line of a refusal looks like, and what to write instead: guesses for where tools/why's own reading of the
+text doesn't agree with the program's. Nothing here is proved."""
 import re
 
 # What stands in the line, by phase, and what it means: the first that fits comes first.
