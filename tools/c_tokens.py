@@ -6,7 +6,8 @@ from collections import namedtuple
 Token = namedtuple("Token", "kind text line column")
 KEYWORDS = set("""auto break case char const continue default do double else enum extern float for goto if inline int
 long register restrict return short signed sizeof static struct switch typedef union unsigned void volatile while
-_Alignas _Alignof _Atomic _Bool _Complex _Generic _Imaginary _Noreturn _Static_assert _Thread_local malloc free""".split())
+_Alignas _Alignof _Atomic _Bool _Complex _Generic _Imaginary _Noreturn _Static_assert _Thread_local malloc
+free""".split())
 TYPE_WORDS = {"int", "signed", "unsigned", "struct"}
 MARKS = sorted("""+ - * / % << >> < > <= >= == != & ^ | && || ! ~ = += -= *= /= %= <<= >>= &= ^= |= ++ -- . -> ( ) [ ]
 { } , ;""".split(), key=len, reverse=True)
