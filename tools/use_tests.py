@@ -95,6 +95,8 @@ USES = [
     (f"tools/campaign {MESSAGES} nosuch", 2, ["No such file"]),
     (f"tools/campaign {MESSAGES} good", 0, ["1 runs"]),
     (f"tools/campaign {MESSAGES} lists", 1, ["replace Parser OutOfBounds examples/messages.c:76"]),
+    (f"mkdir copy; cp -r tools/ copy/tools; touch copy/out; copy/tools/campaign {MESSAGES} good && ls cache/secomp/campaign | wc -l",
+     0, ["1 runs", "\n1\n"]),
     # run, bytes
     (f"tools/run {MESSAGES} numbers", 0, ["out Log 10", "chain 0"]),
     (f"printf '1,1,2,7341,0,0' | tools/run {MESSAGES} -", 0, ["out Log 11"]),
@@ -125,6 +127,11 @@ USES = [
      ["event 1: call Main Net put 4 9", "bounds.policy:4: on all call * Net put arg 1 > 3 deny"]),
     ("$S explain < inner.c | tools/where --full inner.c", 0,
      ["inner.c:5: after event 0: the index 4 leaves pin of 4 elements"]),
+    # sanitized
+    ("tools/sanitized inner.c", 1, ["inner.c:5: runtime error: index 4 out of bounds"]),
+    (f"tools/sanitized {MESSAGES} numbers", 0, ["out Log 10"]),
+    (f"tools/sanitized {REFUSED}", 2, ["refused in the phase types"]),
+    ("tools/sanitized inner.c --compiler cc1", 2, ["invalid choice"]),
     # why
     ("tools/why --lint inner.c", 1, ["inner.c:5: pin has 4 elements, and the index 4 is past them"]),
     ("tools/why inner.c", 0, ["inner.c: accepted"]),
@@ -152,10 +159,10 @@ HELPED = ["tools/check-runs", "tools/policy", "tools/campaign", "tools/run", "to
           "tools/image",
           "examples/draw", "tools/mistakes.py", "tools/tool_sessions.py", "tools/fast.py", "tools/fast_tests.py",
           "tools/wrapper_tests.py",
-          "tools/use_tests.py", "tools/evaluation_tests.py", "tools/campaign_batch.py"]
+          "tools/use_tests.py", "tools/evaluation_tests.py", "tools/sanitized", "tools/language_server", "tools/language_tests.py"]
 USES += [(f"{'python3 ' * tool.endswith('.py')}{tool} --help", 0,
           ["usage" if not tool.endswith("sessions.py") else "tool_sessions.py"])
-         for tool in HELPED if tool != "tools/campaign_batch.py"]
+         for tool in HELPED]
 
 
 def run(command, folder):

@@ -84,6 +84,16 @@ def path_is_written(folder):
     return run(folder, [], SECOMP_WHICH="1") == (f"{folder}/out/fast/secomp\n", SAYS, 0)
 
 
+def cannot_write(folder):
+    """Where the checkout can't be written the program is kept with the user."""
+    with open(f"{folder}/out", "w", encoding="utf-8"):
+        pass
+    out, said, status = run(folder, ["check"], XDG_CACHE_HOME=f"{folder}/cache")
+    found = [f"{at}/{name}" for at, names, _ in os.walk(f"{folder}/cache") for name in names]
+    script(f"{found[-1]}/fast/secomp", "#!/bin/sh\necho kept\n")
+    return not out and status == 1 and "rt" in said and run(folder, [], XDG_CACHE_HOME=f"{folder}/cache")[0] == "kept\n"
+
+
 def proved(folder, **says):
     script(f"{folder}/bin/rt", RT.format(**says))
     return run(folder, ["check"], SECOMP_PROVED="1")
@@ -107,7 +117,7 @@ def keeps_nothing_else(folder):
     return not out and "isn't proved" in said and status == 1 and not is_kept
 
 
-CASES = [no_program, words_and_status, stop_is_said, path_is_written, proves, keeps_proved, keeps_nothing_else]
+CASES = [no_program, cannot_write, words_and_status, stop_is_said, path_is_written, proves, keeps_proved, keeps_nothing_else]
 
 
 def answers():
