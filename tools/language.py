@@ -31,7 +31,8 @@ class Text:
                  for fault, _ in faults(data, self.text)]
         if not found:
             found = [(line, 1, WARNING, words) for line, words in warnings(self.text)]
-        return [{"range": self.range_at(line - 1, column - 1), "severity": severity, "source": "secomp", "message": words}
+        return [{"range": self.range_at(line - 1, column - 1), "severity": severity, "source": "secomp",
+                 "message": words}
                 for line, column, severity, words in found]
 
     def range_at(self, line, column):
@@ -42,7 +43,8 @@ class Text:
 
     def outline(self):
         """The sections, and in each what it declares."""
-        return [{"name": part.name, "kind": MODULE, **self.ranges(part.first - 1, part.first + len(part.section.lines) - 2),
+        return [{"name": part.name, "kind": MODULE,
+                 **self.ranges(part.first - 1, part.first + len(part.section.lines) - 2),
                  "children": [self.symbol(part, node) for node in self.declared(part)]} for part in self.parts]
 
     def declared(self, part):
@@ -80,7 +82,7 @@ class Text:
         return (word.group() if word else None), part
 
     def found(self, line, column):
-        """What a name at a place means: the section in which it is declared, and the node; none where that isn't known."""
+        """What a name at a place means: the section in which it is declared, and the node; or nothing."""
         name, part = self.word_at(line, column)
         if name is None or part is None:
             return None

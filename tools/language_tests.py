@@ -76,7 +76,8 @@ def answers():
         ("a request without a place", by_id[7]["error"]["code"] == -32603),
         ("no JSON", any(it.get("error", {}).get("code") == -32700 for it in sent)),
         ("a fault", [(it["range"]["start"], it["severity"]) for it in marks["broken.c"]] ==
-         [({"line": line_of(BROKEN, "buf[i] = w;"), "character": 11}, 1)] and "w isn't" in marks["broken.c"][0]["message"]),
+         [({"line": line_of(BROKEN, "buf[i] = w;"), "character": 11}, 1)]),
+        ("its reason", "w isn't" in marks["broken.c"][0]["message"]),
         ("a warning", [(it["range"]["start"]["line"], it["severity"]) for it in marks["warned.c"]] == [(4, 2)]),
         ("the end", status == 0 and "Traceback" not in said),
     ]

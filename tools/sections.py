@@ -100,12 +100,17 @@ def count(answers):
     return 1 if failed else 0
 
 
-def start(main, usage):
+def usage(text, is_right=False):
+    """Says how a tool is used where its words ask for that, or where they aren't right."""
+    if sys.argv[1:] in (["-h"], ["--help"]):
+        print(text)
+        sys.exit(0)
+    if not is_right:
+        stop(text)
+
+
+def start(main, text):
     """Runs a tool that takes one word at most, or says how it is used."""
     words = sys.argv[1:]
-    if words in (["-h"], ["--help"]):
-        print(usage)
-        sys.exit(0)
-    if len(words) > 1 or words and words[0].startswith("-"):
-        stop(usage)
+    usage(text, len(words) <= 1 and not any(word.startswith("-") for word in words))
     sys.exit(main(*words))

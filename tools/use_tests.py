@@ -95,8 +95,8 @@ USES = [
     (f"tools/campaign {MESSAGES} nosuch", 2, ["No such file"]),
     (f"tools/campaign {MESSAGES} good", 0, ["1 runs"]),
     (f"tools/campaign {MESSAGES} lists", 1, ["replace Parser OutOfBounds examples/messages.c:76"]),
-    (f"mkdir copy; cp -r tools/ copy/tools; touch copy/out; copy/tools/campaign {MESSAGES} good && ls cache/secomp/campaign | wc -l",
-     0, ["1 runs", "\n1\n"]),
+    (f"mkdir copy; cp -r tools/ copy/tools; touch copy/out; copy/tools/campaign {MESSAGES} good && "
+     "ls cache/secomp/campaign | wc -l", 0, ["1 runs", "\n1\n"]),
     # run, bytes
     (f"tools/run {MESSAGES} numbers", 0, ["out Log 10", "chain 0"]),
     (f"printf '1,1,2,7341,0,0' | tools/run {MESSAGES} -", 0, ["out Log 11"]),
