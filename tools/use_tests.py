@@ -156,13 +156,13 @@ USES = [
     (f"$S explain < {STORE} | examples/draw --html {STORE} | head -n 1", 0, ["<!doctype html>"]),
 ]
 HELPED = ["tools/check-runs", "tools/policy", "tools/campaign", "tools/run", "tools/bytes", "tools/where", "tools/why",
-          "tools/image",
-          "examples/draw", "tools/mistakes.py", "tools/tool_sessions.py", "tools/fast.py", "tools/fast_tests.py",
-          "tools/wrapper_tests.py",
-          "tools/use_tests.py", "tools/evaluation_tests.py", "tools/sanitized", "tools/language_server", "tools/language_tests.py"]
-USES += [(f"{'python3 ' * tool.endswith('.py')}{tool} --help", 0,
-          ["usage" if not tool.endswith("sessions.py") else "tool_sessions.py"])
-         for tool in HELPED]
+          "tools/image", "tools/sanitized", "tools/language_server", "examples/draw"]
+HELPED += [f"tools/{name}.py" for name in (
+    "checked elide ends evaluation_tests fast fast_tests language_tests lemmas mistakes pages real refuse_allocations "
+    "sessions stub tool_sessions trusted unused use_tests wrapper_tests").split()]
+for TOOL in HELPED:
+    WORDS = f"{'python3 ' * TOOL.endswith('.py')}{TOOL}"
+    USES += [(f"{WORDS} --help", 0, [os.path.basename(TOOL)]), (f"{WORDS} --no-such-option", 2, [])]
 
 
 def run(command, folder):

@@ -117,7 +117,8 @@ def keeps_nothing_else(folder):
     return not out and "isn't proved" in said and status == 1 and not is_kept
 
 
-CASES = [no_program, cannot_write, words_and_status, stop_is_said, path_is_written, proves, keeps_proved, keeps_nothing_else]
+CASES = [no_program, cannot_write, words_and_status, stop_is_said, path_is_written, proves, keeps_proved,
+         keeps_nothing_else]
 
 
 def answers():
