@@ -35,6 +35,8 @@ class Reader:
         if text is not None and token.text != text:
             if token.text in ("++", "--"):
                 self.fault("++ and -- are statements, no part of an expression")
+            if token.text == ",":
+                self.fault("no comma operator: one statement each, and in a for one assignment in each part")
             if why:
                 self.fault(why)
             self.behind(f"a {text} is missing at the end of this line, or what follows can't stand here", text)

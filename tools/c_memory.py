@@ -75,7 +75,7 @@ def load(place, wants_pointer):
     if value is None:
         raise Blame("Indeterminate", "the cell holds nothing yet", block, index)
     if is_pointer_value(value) and value[0].ended is not None:
-        raise Blame("Dangling", "a pointer is loaded to what has ended", value[0], value[1])
+        raise Blame("Dangling", "the pointer leads to what has ended", value[0], value[1])
     if wants_pointer != (is_pointer_value(value) or value is NULL):
         raise Blame("BadType", f"{'an integer' if wants_pointer else 'a pointer'} stands there", block, index)
     return value

@@ -53,7 +53,7 @@ def statement_reason(tokens, at):
     token, follows = tokens[at], tokens[min(at + 1, len(tokens) - 1)]
     if token.text in ("int", "signed", "unsigned", "struct"):
         return "locals are declared at the start of the function, before all statements", token
-    if token.text in QUALIFIERS or token.text in TYPES and follows.kind == "name":
+    if token.text in QUALIFIERS or token.text in TYPES and follows.kind in ("name", "word"):
         return declaration_reason(tokens, at)
     if token.text == "{":
         return "a block stands only behind if, else, while and for", token

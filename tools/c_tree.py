@@ -93,6 +93,8 @@ class Parser(Statements):
             if self.text() == "=":
                 self.take()
                 node.init = self.constants()
+                if self.text() not in (",", ";") and self.token().line == self.tokens[self.at - 1].line:
+                    self.fault("a global begins with one integer constant, or a list of them; compute others in main")
             made.globals.append(node)
             more = self.text() == "," and self.take()
         self.take(";")
@@ -143,6 +145,8 @@ class Parser(Statements):
             if self.text() == ".":
                 self.fault("no functions of any number of arguments")
             if self.text() not in TYPE_WORDS:
+                if node.name == "main":
+                    self.fault("main is defined as int main(void): what a run reads comes from input()")
                 self.fault(*declaration_reason(self.tokens, self.at, is_parameter=True))
             of = self.base() + "*" * self.stars()
             name = self.take() if self.token().kind == "name" else None

@@ -64,6 +64,10 @@ def bounds(asked):
 def start(main):
     """Runs a tool, and ends with its status; of what goes wrong there is a sentence and never a traceback."""
     name = os.path.basename(sys.argv[0])
+    for stream in (sys.stdin, sys.stdout, sys.stderr):
+        if stream is not None:
+            # bytes that are no UTF-8 go through as they are
+            stream.reconfigure(errors="surrogateescape")
     try:
         status = main() or NOTHING
         sys.stdout.flush()

@@ -141,6 +141,13 @@ MISTAKES = [
     (FILE, "struct S { int count; };\nint f(struct S *s) { return s->cuont; }", 3,
      "has no member cuont; count is meant?"),
     (MAIN, "  int a; a = 1; }\n  a = 2;", 4, "a type is missing before a"),
+    (FILE, '#include "text.h"', 2, "no #include"),
+    (FILE, "int g = 1 + 2;", 2, "a global begins with one integer constant"),
+    (MAIN, "  int a; a = 1;\n  long long b;", 4, "no type long"),
+    (MAIN, "  int a; a = 1, a = 2;", 3, "no comma operator"),
+    (MAIN, "  int a;\n  for (a = 0, a = 1; a < 2; a++) { }", 4, "no comma operator"),
+    (MAIN, "  int a;\n  for (a = 0; a < 2; a++, a++) { }", 4, "no comma operator"),
+    (MAIN.replace("(void)", "(int argc, char **argv)"), "", 2, "main is defined as int main(void)"),
 ]
 
 # Texts with more faults than one, and the lines and a part of each message: one fault gives one message.

@@ -53,8 +53,8 @@ def guessed(phase, line, text):
     lines = without_comments(text.split("\n"))
     if line == 0:
         return Fault(phase, 1, 1, "no section defines main, as int main(void)"), []
-    at = blamed(phase, line, lines)
-    said = reasons(phase, lines[at - 1])
+    at = blamed(phase, min(line, len(lines)), lines)
+    said = reasons(phase, lines[at - 1]) or ["what stands here isn't taken, and this tool doesn't know why"]
     if at != line and not re.match(r"\s*(if|while|for)\b", lines[at - 1]):
         said = ["a ; is missing at the end of this line, or what follows can't stand here", *said[:1]]
     indent = len(lines[at - 1]) - len(lines[at - 1].lstrip())
@@ -72,5 +72,8 @@ def faults(data, text):
     lines = text.split("\n")
     for fault in found:
         if fault.phase == "lex":
-            fault.text = (reasons("lex", lines[fault.line - 1]) or [fault.text])[0]
+            line = lines[fault.line - 1]
+            # what stands in a directive's quotes isn't what is wrong with it
+            looked_at = re.sub("[\"']", " ", line) if line[fault.column - 1:fault.column] == "#" else line
+            fault.text = (reasons("lex", looked_at) or [fault.text])[0]
     return [(fault, []) for fault in found[:MOST]]
