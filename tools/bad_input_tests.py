@@ -1,7 +1,7 @@
 #!/usr/bin/env python3
-"""Gives the tools texts, reports, policies and images that are broken on purpose, from seeds, and holds each answer to a
-stated status, without a traceback and within a minute. Where tools/why names a fault of its own reading, that is the
-program's phase and line, or the program's is named.
+"""Gives the tools texts, reports, policies and images that are broken on purpose, from seeds, and holds each answer to
+a stated status, without a traceback and within a minute. The first fault that tools/why shows is of the phase of the
+program's refusal.
 
 The last line counts; the status is 1 if a test failed.
 """
@@ -15,8 +15,8 @@ import tempfile
 
 from sections import TOP, count, program, read, secomp
 
-PIECES = [b"(", b")", b"{", b"}", b"[", b"]", b"int ", b"*", b"/*", b"#pragma compartment X\n", b"#pragma import A b\n", b"0x",
-          b"=", b";", b",", b"\xff", b"\x00", b"\r", b"\n", b" -1", b" 99999999999", b"struct ", b"&", b"."]
+PIECES = [b"(", b")", b"{", b"}", b"[", b"]", b"int ", b"*", b"/*", b"#pragma compartment X\n", b"#pragma import A b\n",
+          b"0x", b"=", b";", b",", b"\xff", b"\x00", b"\r", b"\n", b" -1", b" 99999999999", b"struct ", b"&", b"."]
 TEXTS = ["store.c", "messages.c", "two.c", "leak.c", "policies/order.c", "policies/sealed.c"]
 POLICIES = ["bounds", "budget", "order", "sealed"]
 REFUSED = re.compile(r"refused (\w+) line (\d+)")

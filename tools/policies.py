@@ -174,7 +174,8 @@ class Reader:
         """The rules with one condition each."""
         plain = []
         for at, rule in enumerate(rules):
-            first, *second = rule.condition or [None]
+            # an event without the first one's argument has none of the second one's, and meets neither
+            first, *second = sorted(rule.condition, key=lambda it: it[0]) if rule.condition else [None]
             if second:
                 plain.append(self.opposite(rule, first, rules[at + 1:]))
             plain.append(Rule(rule.state, rule.kind, rule.names, second[0] if second else first, rule.to, rule.line))

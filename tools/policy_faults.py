@@ -14,6 +14,8 @@ class Finder:
 
     def __init__(self, policy, interface):
         self.policy, self.interface, self.found = policy, interface, []
+        # the rules that take no event
+        self.idle = set()
         self.calls = list(interface.calls())
 
     def say(self, line, text):
@@ -95,6 +97,7 @@ class Finder:
             argument, operator, value = rule.condition
             wanted = [it for it in INTERVALS[operator](value) if it[0] <= it[1]]
         if not wanted:
+            self.idle.add(rule)
             self.say(rule.line, "no value meets this condition")
             return
         lines, is_hidden = set(), bool(matched)
@@ -105,6 +108,8 @@ class Finder:
             lines |= by
         for names in matched:
             taken[rule.state, rule.kind, names].append((argument if rule.condition else None, wanted, rule.line))
+        if is_hidden:
+            self.idle.add(rule)
         if is_hidden and lines - {rule.line}:
             shown = " and ".join(str(line) for line in sorted(lines - {rule.line}))
             rules = "the rule of line" if len(lines) == 1 else "the rules of lines"
@@ -112,9 +117,10 @@ class Finder:
 
     def unreachable(self, events):
         reached, grew = {self.policy.initial()}, True
+        leading = [rule for rule, matched in zip(self.policy.rules, events)
+                   if matched and rule.to and rule not in self.idle]
         while grew:
-            more = {rule.to for rule, matched in zip(self.policy.rules,
-                                                     events) if matched and rule.to and rule.state in reached}
+            more = {rule.to for rule in leading if rule.state in reached}
             grew = not more <= reached
             reached |= more
         for name, line in self.policy.states:
