@@ -10,6 +10,7 @@ import sys
 NOTHING, FOUND, BAD = 0, 1, 2
 UNPROVED = ("Nothing of this is proved. The status is 0 where nothing was found, 1 where something was, 2 for bad use "
             "or input.")
+FILTER = "Nothing of this is proved. The status is 0, or 2 for bad use or input."
 MOST_STEPS, MOST_EVENTS, MOST_NUMBERS = 16_777_216, 4096, 65536
 LEAST_VALUE, MOST_VALUE = -2 ** 31, 2 ** 31 - 1
 
