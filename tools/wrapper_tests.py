@@ -66,6 +66,24 @@ def no_program(folder):
     return not out and "rt" in said and status == 1
 
 
+def builds_once(folder):
+    """A program that isn't there is built, and run; the next time it is there."""
+    script(f"{folder}/bin/rt", "#!/bin/sh\n")
+    script(f"{folder}/tools/fast.py", "import os, sys\nos.makedirs(os.path.dirname(sys.argv[2]))\n"
+           "open(sys.argv[2], 'w').write('#!/bin/sh\\necho made\\n')\nos.chmod(sys.argv[2], 0o755)\n")
+    first, second = run(folder, ["check"]), run(folder, ["check"])
+    begins = "secomp: building the program with run-time checks in place of proofs"
+    return first[0] == second[0] == "made\n" and first[1].startswith(begins) and second[1] == SAYS
+
+
+def fails_to_build(folder):
+    """Where no program is built the status says so, and nothing is run."""
+    script(f"{folder}/bin/rt", "#!/bin/sh\n")
+    script(f"{folder}/tools/fast.py", "import sys\nprint('told', file=sys.stderr)\nsys.exit(2)\n")
+    out, said, status = run(folder, ["check"])
+    return not out and "told" in said and status == 1
+
+
 def words_and_status(folder):
     """The words and the status of the program without proofs go through."""
     with_fast(folder, "#!/bin/sh\nprintf '<%s>' \"$@\"\necho told >&2\nexit 3\n")
@@ -117,8 +135,8 @@ def keeps_nothing_else(folder):
     return not out and "isn't proved" in said and status == 1 and not is_kept
 
 
-CASES = [no_program, cannot_write, words_and_status, stop_is_said, path_is_written, proves, keeps_proved,
-         keeps_nothing_else]
+CASES = [no_program, builds_once, fails_to_build, cannot_write, words_and_status, stop_is_said, path_is_written, proves,
+         keeps_proved, keeps_nothing_else]
 
 
 def answers():
