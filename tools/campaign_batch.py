@@ -25,8 +25,9 @@ def shown(lines):
 
 
 def run(words, values):
-    ran = subprocess.run(["./program", *words, *([f"--in={values}"] if values else [])], stdin=open("text", "rb"),
-                         capture_output=True, check=False)
+    with open("text", "rb") as text:
+        ran = subprocess.run(["./program", *words, *([f"--in={values}"] if values else [])], stdin=text,
+                             capture_output=True, check=False)
     if ran.returncode:
         return [f"status {ran.returncode} {ran.stderr.decode(errors='replace').strip()}"]
     return shown(ran.stdout.decode().splitlines())
@@ -42,4 +43,7 @@ def main(batch):
 
 
 if __name__ == "__main__":
+    if len(sys.argv) != 2 or sys.argv[1].startswith("-"):
+        print(__doc__, file=sys.stdout if sys.argv[1:] in (["-h"], ["--help"]) else sys.stderr)
+        sys.exit(0 if sys.argv[1:] in (["-h"], ["--help"]) else 2)
     main(sys.argv[1])

@@ -15,6 +15,8 @@ import shutil
 import subprocess
 import sys
 
+from sections import usage
+
 LEAST = 6  # characters that an edit has to save
 SIGNATURE = re.compile(r"^(\s*)(?:pub )?([^\s(){}\[\];,]+) : ")
 TOKEN = re.compile(r"[^\s(){}\[\];,]+|[(){}\[\];,]|\n")
@@ -212,6 +214,8 @@ def withdraw(files, errors, tries):
 
 
 def main(words):
+    usage(__doc__, 1 <= len(words) <= 2 and os.path.isdir(f"crates/{words[0]}/proofs") and
+          (len(words) == 1 or words[1].isdigit()))
     crate, rounds = words[0], int(words[1]) if len(words) > 1 else 60
     paths = [path for path in sorted(glob.glob(f"crates/{crate}/proofs/*.antt"))]
     files = [File(path) for path in paths if os.path.basename(path) not in ("Lib.antt", "Common.antt")]

@@ -18,6 +18,8 @@ import subprocess
 import sys
 import tempfile
 
+from sections import usage
+
 RULES = "probe_rules"
 
 
@@ -68,8 +70,7 @@ def add_probe(folder):
 
 
 def main(words):
-    if not words or words[0].startswith("-"):
-        raise SystemExit(__doc__)
+    usage(__doc__, words and os.path.isdir(f"crates/{words[0]}/src"))
     flags = []
     if "--" in words:
         flags = words[words.index("--") + 1:]

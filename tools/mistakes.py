@@ -2,12 +2,13 @@
 """Tests tools/why: `mistakes.py`, at the top of the repository. For each mistake that C programmers make here, the
 reason that it must name first, and at which line. The last line counts them.
 """
-import os
+import argparse
+import re
 import subprocess
 import sys
 import tempfile
 
-from sections import count
+from sections import TOP, count
 
 # Where a mistake stands in a text: in main, between the functions, or as the whole text.
 MAIN = "#pragma compartment Main\nint main(void) {\n@\n  return 0;\n}\n"
@@ -105,9 +106,9 @@ MISTAKES = [
     (MAIN, "  break;", 3, "in a loop"),
     (MAIN, "  continue;", 3, "in a loop"),
     (MAIN, "  x = 1;", 3, "declared before"),
-    (MAIN, "  int a; int a;", 3, "declared before it is used, and once"),
+    (MAIN, "  int a; int a;", 3, "a is declared twice"),
     (MAIN, "  f(1);", 3, "defined or imported"),
-    (FILE, "struct S s;", 2, "the struct is defined"),
+    (FILE, "struct S s;", 2, "struct S isn't defined before"),
     (MAIN, "  int *p; p = 7;", 3, "what is assigned"),
     (MAIN, "  int a; int *p; p = 0; a = p;", 3, "what is assigned"),
     (MAIN, "  int a[3]; int *p; p = &a;", 3, "whole array"),
@@ -116,27 +117,84 @@ MISTAKES = [
     (FILE, "void f(void) { return 1; }", 2, "return has a value"),
     (TWO, "int f(void) {\n  int a;\n  a = put(1);\n  return a;\n}", 5, "wants its prototype"),
     (TWO, "int put(unsigned int i);", 3, "declarations of the function agree"),
-    (TWO, "", 2, "exported there"),
+    (TWO, "", 2, "has a prototype"),
     (FILE, "#pragma export f", 2, "defined in this section"),
-    (FILE, "#pragma import Log write\nvoid write(int v);", 2, "exported there"),
+    (FILE, "#pragma import Log write\nvoid write(int v);", 2, "no section is named Log"),
     (FILE, "int f(int a, int b, int c, int d, int e, int g, int h, int i, int j);", 2, "too many"),
     (FILE, "int a[2000000];", 2, "too many"),
+    (MAIN, "  int i;\n  for (i = 0; i < 3; i++)\n    i = 2;", 4, "the body of for stands in braces"),
+    (MAIN, "  int a; a = 1;\n  if (a) a = 2;", 4, "the body of if stands in braces"),
+    (MAIN, "  int a;\n  if (a = 1) {\n  }", 4, "an assignment is no expression"),
+    (FILE, "int f(int a[]) { return 1; }", 2, "a parameter is no array: write a pointer, as int *a"),
+    (FILE, "int f(int a[4]) { return 1; }", 2, "a parameter is no array"),
+    (FILE, "int f(a) { return 1; }", 2, "a type is missing before a"),
+    (FILE, "int f(size_t a) { return 1; }", 2, "no type size_t"),
+    (FILE, "word a;", 2, "word is no type"),
+    (MAIN, "  int *p; p = NULL;", 3, "NULL isn't declared: null is the literal 0"),
+    (MAIN, "  int count; cuont = 1;", 3, "cuont isn't; count is meant?"),
+    (MAIN, "  output(1);", 3, "#pragma import Env output"),
+    (TWO.replace("Net put", "Nets put", 1), "int put(int i);", 2,
+     "no section is named Nets, so that nothing is exported there; Net"),
+    (TWO.replace("Net put", "Net putt", 1), "int putt(int i);", 2, "Net doesn't export putt; put is meant?"),
+    (FILE, "#pragma export bt_f\nint bt_f(void) { return 1; }", 2, "no name that crosses begins with bt_"),
+    (FILE, "struct S { int a; };\nint f(struct S *s) { return s.a; }", 3, "write -> before a"),
+    (FILE, "struct S { int count; };\nint f(struct S *s) { return s->cuont; }", 3,
+     "has no member cuont; count is meant?"),
+    (MAIN, "  int a; a = 1; }\n  a = 2;", 4, "a type is missing before a"),
+    (FILE, '#include "text.h"', 2, "no #include"),
+    (FILE, "int g = 1 + 2;", 2, "a global begins with one integer constant"),
+    (MAIN, "  int a; a = 1;\n  long long b;", 4, "no type long"),
+    (MAIN, "  int a; a = 1, a = 2;", 3, "no comma operator"),
+    (MAIN, "  int a;\n  for (a = 0, a = 1; a < 2; a++) { }", 4, "no comma operator"),
+    (MAIN, "  int a;\n  for (a = 0; a < 2; a++, a++) { }", 4, "no comma operator"),
+    (MAIN.replace("(void)", "(int argc, char **argv)"), "", 2, "main is defined as int main(void)"),
 ]
+
+# Texts with more faults than one, and the lines and a part of each message: one fault gives one message.
+SEVERAL = [
+    (MAIN, "  int a\n  a = 1;\n  a = 2;", [(3, "a ; is missing")]),
+    (MAIN, "  int i;\n  for (int j = 0; j < 3; j++) {\n    i = j;\n  }", [(4, "start of the function")]),
+    (MAIN, "  int i;\n  i = x;\n  i = y + x;", [(4, "x isn't"), (5, "y isn't"), (5, "x isn't")]),
+    (MAIN, "  int i;\n  i = 1\n  i = 2;\n  if (i) i = 3;\n  i = 4;", [(4, "a ; is missing"), (6, "braces")]),
+]
+# Accepted texts that can't be compiled, and what is said of them.
+LARGE = [(MAIN, "  int a[9000]; a[0] = 1;", "too large: the frame of main of Main would take"),
+         (MAIN, "  int a[9000]; a[0] = 1;", "make the arrays of main globals")]
+
+
+def said_of(folder, texts):
+    """The lines of tools/why for each text, of which it begins some with the text's number."""
+    for number, (template, part, *_) in enumerate(texts):
+        with open(f"{folder}/{number}.c", "w", encoding="utf-8") as it:
+            it.write(template.replace("@", part, 1))
+    names = [f"{number}.c" for number in range(len(texts))]
+    ran = subprocess.run([f"{TOP}/tools/why", *names], cwd=folder, capture_output=True, text=True, check=False)
+    said = {name: [] for name in names}
+    for line in ran.stdout.split("\n"):
+        name, colon, rest = line.partition(":")
+        if colon and name in said:
+            said[name].append(rest.lstrip())
+    return list(said.values())
 
 
 def answers():
     """What tools/why says of each mistake, where it isn't what it must."""
     with tempfile.TemporaryDirectory() as folder:
-        path = os.path.join(folder, "text.c")
-        for template, part, line, reason in MISTAKES:
-            with open(path, "w", encoding="utf-8") as it:
-                it.write(template.replace("@", part, 1))
-            ran = subprocess.run(["tools/why", path], capture_output=True, text=True, check=False)
-            first = ran.stdout.split("\n")[0]
-            right = first.startswith(f"{path}:{line}: ") and reason in first
-            came = first.replace(path, "text.c")
-            yield "" if right else f"{part!r}: wanted line {line}, {reason!r}, and came {came!r}"
+        said = iter(said_of(folder, [*MISTAKES, *SEVERAL, *LARGE]))
+        for _, part, line, reason in MISTAKES:
+            came = next(said)
+            right = came and re.match(rf"{line}:\d+: ", came[0]) and reason in came[0]
+            yield "" if right else f"{part!r}: wanted line {line}, {reason!r}, and came {came[:1]}"
+        for _, part, wanted in SEVERAL:
+            found = next(said)
+            right = len(found) == len(wanted) and all(
+                came.startswith(f"{line}:") and reason in came for came, (line, reason) in zip(found, wanted))
+            yield "" if right else f"{part!r}: wanted {wanted}, and came {found}"
+        for _, part, reason in LARGE:
+            found = next(said)
+            yield "" if found and reason in found[0] else f"{part!r}: wanted {reason!r}, and came {found[:1]}"
 
 
 if __name__ == "__main__":
+    argparse.ArgumentParser(description=__doc__, formatter_class=argparse.RawDescriptionHelpFormatter).parse_args()
     sys.exit(count(answers()))

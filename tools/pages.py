@@ -15,7 +15,7 @@ import subprocess
 import sys
 import tempfile
 
-from sections import count, read, secomp
+from sections import count, read, secomp, usage
 
 MEASURE = """
 <script>
@@ -114,6 +114,7 @@ def tested(program, folder, name, words, wanted):
 
 
 def main():
+    usage(__doc__, len(sys.argv) == 1)
     program = browser()
     if not program:
         print("no page was tested: there is no chromium")

@@ -16,7 +16,7 @@ import os
 import re
 import subprocess
 
-from sections import TOP, commands, count, read, secomp, start
+from sections import TOP, commands, count, read, secomp, start, stop
 
 FOLDER = "examples/real"
 MOST = {"meaning": ["--turns=16777216"], "run": ["--steps=16777216"], "explain": []}
@@ -95,6 +95,8 @@ def main(prefix=""):
     os.nice(10)
     with concurrent.futures.ThreadPoolExecutor(os.cpu_count()) as pool:
         running = [(name, pool.submit(test)) for name, test in (*vectors(prefix), *sessions(prefix))]
+        if not running:
+            stop(f"real: no program begins with {prefix}")
         return count(test.result() and f"{name}: {test.result()}" for name, test in running)
 
 

@@ -18,6 +18,8 @@ import sys
 import tempfile
 from concurrent.futures import ThreadPoolExecutor
 
+from sections import usage
+
 # The number that the build refuses, and how its bytes stand in the program.
 MARK = 0x5EC0_3B1D
 STORED = MARK.to_bytes(4, "little")
@@ -102,8 +104,7 @@ def main(words):
             print(f"{' '.join(command)}: ", end="", flush=True)
             refuse(words[1], command, text)
         return
-    if len(words) < 2:
-        raise SystemExit(__doc__)
+    usage(__doc__, len(words) >= 2 and os.access(words[0], os.X_OK))
     refuse(words[0], words[1:], sys.stdin.buffer.read())
 
 

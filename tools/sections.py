@@ -1,5 +1,6 @@
 """What the tools beside `secomp` share: a text's sections, the program, the sessions that a document shows, and how
 tests are counted. Nothing here is part of the proved program."""
+import functools
 import os
 import re
 import subprocess
@@ -7,8 +8,6 @@ import sys
 
 HEADING = re.compile(r"#pragma compartment ([A-Za-z_]\w*)\s*$")
 TOP = os.path.dirname(os.path.dirname(os.path.abspath(__file__)))
-MOST_NUMBERS = 65536
-MOST_ARGUMENT = 131071
 
 
 class Section:
@@ -40,30 +39,30 @@ def section_of(text, name):
 
 
 def secomp(words, text):
-    """What `./secomp` writes on these words for a text, what it says on standard error, and its status."""
-    ran = subprocess.run([f"{TOP}/secomp", *words], input=text, capture_output=True, check=False)
+    """What the program writes on these words for a text, what it says on standard error, and its status."""
+    try:
+        ran = subprocess.run([program(), *words], input=text, capture_output=True, check=False)
+    except OSError as error:
+        stop(f"secomp: {error.strerror}")
     return ran.stdout, ran.stderr.decode(errors="replace"), ran.returncode
 
 
+@functools.cache
 def program():
-    """The program that `./secomp` runs, which is built first where it isn't yet."""
+    """The program that `./secomp` runs, which is built first where it isn't yet; or the one that SECOMP names."""
+    if named := os.environ.get("SECOMP"):
+        return named
     asks = {**os.environ, "SECOMP_WHICH": "1"}
-    ran = subprocess.run([f"{TOP}/secomp"], env=asks, stdout=subprocess.PIPE, check=False)
+    ran = subprocess.run([f"{TOP}/secomp"], env=asks, stdin=subprocess.DEVNULL, stdout=subprocess.PIPE, check=False)
     if ran.returncode:
-        sys.exit(ran.returncode)
+        sys.exit(2)
     return ran.stdout.decode().rstrip("\n")
 
 
-def input_list(path):
-    """A file's bytes as a list of numbers with commas, as --in takes it."""
-    numbers = list(read(path)[:MOST_NUMBERS + 1])
-    values = ",".join(map(str, numbers))
-    length = len("--in=") + len(values)
-    if len(numbers) > MOST_NUMBERS:
-        sys.exit(f"{path}: more than {MOST_NUMBERS} bytes, and a run takes no more inputs")
-    if length > MOST_ARGUMENT:
-        sys.exit(f"{path}: its numbers take {length} bytes, and one argument has at most {MOST_ARGUMENT}")
-    return values
+def stop(text):
+    """Ends a tool for bad use or bad input."""
+    print(text, file=sys.stderr)
+    sys.exit(2)
 
 
 def read(path):
@@ -71,7 +70,7 @@ def read(path):
         with open(path, "rb") as it:
             return it.read()
     except OSError as error:
-        sys.exit(f"{path}: {error.strerror}")
+        return stop(f"{path}: {error.strerror}")
 
 
 def commands(document):
@@ -101,8 +100,17 @@ def count(answers):
     return 1 if failed else 0
 
 
-def start(main, usage):
+def usage(text, is_right=False):
+    """Says how a tool is used where its words ask for that, or where they aren't right."""
+    if sys.argv[1:] in (["-h"], ["--help"]):
+        print(text)
+        sys.exit(0)
+    if not is_right:
+        stop(text)
+
+
+def start(main, text):
     """Runs a tool that takes one word at most, or says how it is used."""
-    if len(sys.argv) > 2 or sys.argv[1:2] in (["-h"], ["--help"]):
-        raise SystemExit(usage)
-    sys.exit(main(*sys.argv[1:]))
+    words = sys.argv[1:]
+    usage(text, len(words) <= 1 and not any(word.startswith("-") for word in words))
+    sys.exit(main(*words))

@@ -14,7 +14,7 @@ import re
 import subprocess
 import sys
 
-from sections import commands
+from sections import commands, usage
 
 DOCUMENTS = {
     "TUTORIAL": "docs/TUTORIAL.md",
@@ -141,7 +141,7 @@ def main():
         with open(TARGET, "w", encoding="utf-8") as it:
             it.write(module())
     else:
-        raise SystemExit(__doc__)
+        usage(__doc__)
 
 
 main()

@@ -13,6 +13,8 @@ import re
 import shutil
 import sys
 
+from sections import usage
+
 
 def stubbed(text, function, body):
     """The text with another body for a function."""
@@ -33,8 +35,7 @@ def proof_folders(crate, function):
 
 
 def main(words):
-    if len(words) != 4:
-        raise SystemExit(__doc__)
+    usage(__doc__, len(words) == 4 and os.path.isfile(f"crates/{words[0]}/src/{words[1]}"))
     crate, file, function, body = words
     path = f"crates/{crate}/src/{file}"
     with open(path, encoding="utf-8") as it:

@@ -1,5 +1,5 @@
 #!/usr/bin/env python3
-"""Runs the sessions of docs/TOOLS.md: `tool_sessions.py [WORD]`, at the top of the repository.
+"""Runs the sessions of the documents of tools: `tool_sessions.py [WORD]`, at the top of the repository.
 
 A session is a line `$ COMMAND` in a block that is indented by four spaces, with what it writes below it, on both
 streams. They are run in order, in a folder of their own, in which the repository's folders and `secomp` stand. With
@@ -14,9 +14,9 @@ import tempfile
 
 from sections import TOP, commands, count, program, start
 
-PAGE = "docs/TOOLS.md"
-CHECKED = re.compile(r"^secomp: (this program has run-time checks|building ).*\n", re.M)
-WANTING = re.compile(r"campaign: this takes GNU parallel.*\n")
+PAGES = ["docs/TOOLS.md", "docs/BUILD.md"]
+CHECKED = re.compile(r"^secomp: (this program has run-time checks|building |built ).*\n", re.M)
+WANTING = re.compile(r"\w+: this takes .* \(in Debian the package .*\n")
 
 
 def run(command, folder):
@@ -25,9 +25,9 @@ def run(command, folder):
     return CHECKED.sub("", ran.stdout.decode(errors="replace"))
 
 
-def answers(word, folder):
-    """How each session went that was tried: nothing where it wrote what is shown."""
-    for command, shown, _ in commands(PAGE):
+def answers(page, word, folder):
+    """How each session of a page went that was tried: nothing where it wrote what is shown."""
+    for command, shown, _ in commands(page):
         if shown and word not in command:
             continue
         wrote = run(command, folder)
@@ -39,10 +39,14 @@ def answers(word, folder):
 
 def main(word=""):
     program()
+    return count(answer for page in PAGES for answer in in_folder(page, word))
+
+
+def in_folder(page, word):
     with tempfile.TemporaryDirectory() as folder:
         for name in ("secomp", "tools", "docs", "examples"):
             os.symlink(f"{TOP}/{name}", f"{folder}/{name}")
-        return count(answers(word, folder))
+        yield from answers(page, word, folder)
 
 
 if __name__ == "__main__":

@@ -19,6 +19,7 @@ import sys
 
 from cites import Kit, Unresolved
 from cites_code import Repository
+from sections import usage
 
 HEADLINE = ("sc_top", "secomp")
 TARGET = "docs/TRUSTED.md"
@@ -215,8 +216,7 @@ def main(words):
     repository = Repository(os.path.dirname(os.path.dirname(os.path.realpath(__file__))))
     prints = {"--helping": helping, "--twice": twice, "--terms": terms}
     target = f"{repository.top}/{TARGET}"
-    if words and (len(words) > 1 or words[0] not in [*prints, "--check"]):
-        raise SystemExit(__doc__)
+    usage(__doc__, not words or len(words) == 1 and words[0] in [*prints, "--check"])
     try:
         if words and words[0] in prints:
             print("\n".join(prints[words[0]](repository)))

@@ -13,6 +13,8 @@ import os
 import re
 import sys
 
+from sections import usage
+
 EXAMPLES = re.compile(
     r"(Examples?|Rows|Causes|Texts|Accounts|Known|Typed|Refusals|Runs|Seven|Computed|Small|Names|Calling)\.antt$")
 INSTANCE = "-- An instance:"
@@ -136,6 +138,7 @@ class Repository:
 
 
 def main(words):
+    usage(__doc__, len(words) <= 1 and all(os.path.isdir(f"{word}/crates") for word in words))
     own = os.path.dirname(os.path.dirname(os.path.realpath(__file__)))
     repository = Repository(os.path.realpath(words[0]) if words else own)
     repository.begin()

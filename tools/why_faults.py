@@ -1,0 +1,79 @@
+"""The faults of a refused text, with what to write instead: for tools/why and tools/language_server. Nothing here is
+proved; what is refused, `secomp check` says."""
+import re
+
+from c_program import Program
+from c_tokens import Fault
+from command import Refused
+from interface import REFUSED
+from sections import secomp
+from why_guesses import reasons, without_comments
+
+MOST = 10
+
+
+def refused(text):
+    """The phase and line at which the program refuses a text, or none; what else it says of it stops the tool."""
+    _, said, status = secomp(["check"], text)
+    found = REFUSED.search(said)
+    if status and not found:
+        raise Refused(said.strip() or f"secomp: status {status}")
+    return (found[1], int(found[2])) if found else None
+
+
+def faults_of(text):
+    """The faults of the first phase that has any. Of lex and syntax a section has one, and the next is found with the
+    line of the last one blanked; one at a blanked line comes from the blanking, and is none."""
+    found = list(Program(text).faults)
+    if not found or found[0].phase not in ("lex", "syntax"):
+        return found
+    lines, blanked = text.split("\n"), set()
+    while len(found) < MOST:
+        blanked |= {line for fault in found for line in (fault.line, fault.at)}
+        for number in blanked:
+            lines[number - 1] = re.sub(r"[^{}]", " ", lines[number - 1])
+        more = [fault for fault in Program("\n".join(lines)).faults
+                if fault.phase == found[0].phase and not blanked & {fault.line, fault.at}]
+        if not more:
+            break
+        found += more
+    return sorted(found, key=lambda fault: fault.line)
+
+
+def blamed(phase, line, lines):
+    """The line whose tokens are to blame: at a Syntax refusal often the one before, which lacks its end."""
+    before = next((number for number in range(line - 1, 0, -1) if lines[number - 1].strip()), line)
+    said = lines[before - 1]
+    ends = re.search(r"[;{}>)]\s*$|^#", said) and not re.match(r"\s*(if|while|for)\b.*\)\s*$", said)
+    return before if phase == "syntax" and not ends else line
+
+
+def guessed(phase, line, text):
+    """A fault by what its line looks like, and the other reasons that it may have."""
+    lines = without_comments(text.split("\n"))
+    if line == 0:
+        return Fault(phase, 1, 1, "no section defines main, as int main(void)"), []
+    at = blamed(phase, min(line, len(lines)), lines)
+    said = reasons(phase, lines[at - 1]) or ["what stands here isn't taken, and this tool doesn't know why"]
+    if at != line and not re.match(r"\s*(if|while|for)\b", lines[at - 1]):
+        said = ["a ; is missing at the end of this line, or what follows can't stand here", *said[:1]]
+    indent = len(lines[at - 1]) - len(lines[at - 1].lstrip())
+    return Fault(phase, at, indent + 1, said[0]), said[1:]
+
+
+def faults(data, text):
+    """The faults of a text, each with other reasons that it may have; none where it is accepted."""
+    said = refused(data)
+    if not said:
+        return []
+    found = faults_of(text)
+    if not found or (found[0].phase, found[0].line) != said:
+        return [guessed(*said, text)]
+    lines = text.split("\n")
+    for fault in found:
+        if fault.phase == "lex":
+            line = lines[fault.line - 1]
+            # what stands in a directive's quotes isn't what is wrong with it
+            looked_at = re.sub("[\"']", " ", line) if line[fault.column - 1:fault.column] == "#" else line
+            fault.text = (reasons("lex", looked_at) or [fault.text])[0]
+    return [(fault, []) for fault in found[:MOST]]
