@@ -1,5 +1,6 @@
 """How tools/foreign compiles and links the files of a foreign compartment: by the cross compiler of Debian, for RV32IM,
 with the code, the globals and the entries where the machine wants them."""
+import functools
 import os
 import re
 import shutil
@@ -7,7 +8,7 @@ import subprocess
 
 from foreign_program import MOST_CODE, MOST_GLOBALS, Refused, write
 
-PARTS = os.path.join(os.path.dirname(os.path.abspath(__file__)), "foreign_parts")
+PARTS = os.path.join(os.path.dirname(os.path.abspath(__file__)), "foreign_parts", "all.c")
 CROSS = "riscv64-unknown-elf-"
 PACKAGES = {CROSS + "gcc": "gcc-riscv64-unknown-elf", CROSS + "g++": "gcc-riscv64-unknown-elf",
             CROSS + "ld": "binutils-riscv64-unknown-elf", "clang": "clang", "clang++": "clang"}
@@ -87,33 +88,27 @@ class Build:
         self.objects.append((path, made))
         check_object(path, made)
 
-    def parts(self):
-        """The objects of what stands in for the environment of C."""
-        for name in sorted(os.listdir(PARTS)):
-            made = os.path.join(self.folder, name + ".o")
-            done = run([*compiler_words("gcc", "C"), "-c", os.path.join(PARTS, name), "-o", made])
-            if done.returncode:
-                raise Refused(f"{name} of the tool isn't accepted: {done.stderr.rstrip()}")
-            yield made
-
     def link(self, face, is_main):
         """The linked file; where constructors or thread-local data are, the entries go through a start."""
-        parts = list(self.parts())
+        parts = os.path.join(self.folder, "parts.o")
+        done = run([*compiler_words("gcc", "C"), "-I", os.path.dirname(PARTS), f"-Wa,-I{os.path.dirname(PARTS)}", "-c", PARTS, "-o",
+                    parts])
+        if done.returncode:
+            raise Refused(f"{PARTS} isn't accepted: {done.stderr.rstrip()}")
         elf = self.link_once(face, is_main, parts, set())
-        sizes = section_sizes(elf)
-        wanted = {name for name, sections in (("thread", (".tdata", ".tbss")), ("constructors", (".init_array",)))
-                  if any(sizes.get(it) for it in sections)}
+        wanted = {"thread"} if section_sizes(elf).get(".tdata") or section_sizes(elf).get(".tbss") else set()
         if symbols(elf)["secomp_constructors"] != symbols(elf)["secomp_constructors_end"]:
             wanted.add("constructors")
         return self.link_once(face, is_main, parts, wanted) if wanted else elf
 
     def link_once(self, face, is_main, parts, wanted):
-        veneers, script, elf = (os.path.join(self.folder, name) for name in ("veneers.s", "layout.ld", "linked"))
+        names = ("veneers.s", "layout.ld", "linked" + "-".join(["", *sorted(wanted)]))
+        veneers, script, elf = (os.path.join(self.folder, name) for name in names)
         write(veneers, veneers_of(face, is_main, wanted).encode())
         write(script, (LAYOUT % {"code": face.code_start(), "data": face.globals_start()}).encode())
         words = [CROSS + "gcc", *TARGET, "--specs=picolibc.specs", "-nostdlib", "-static", "-Wl,--no-relax",
                  "-Wl,--gc-sections", "-Wl,--no-warn-rwx-segments", f"-T{script}", "-Wl,-e,secomp_entries", "-o", elf,
-                 veneers, *(made for _, made in self.objects), *parts,
+                 veneers, *(made for _, made in self.objects), parts,
                  "-Wl,--start-group", "-lc", "-lm", "-lgcc", "-Wl,--end-group"]
         done = run(words)
         if done.returncode:
@@ -185,10 +180,16 @@ def unknown(name, said, face):
     return f"{name}{used} is defined nowhere: give the file that defines it, or let {face.name} import it"
 
 
+@functools.cache
+def headers(path):
+    """What readelf says of a file's header and sections."""
+    return run([CROSS + "readelf", "-hSW", path]).stdout
+
+
 def section_sizes(path):
     """The sizes of a file's sections that take memory."""
     found = {}
-    for line in run([CROSS + "readelf", "-SW", path]).stdout.splitlines():
+    for line in headers(path).splitlines():
         parts = re.match(r"\s*\[\s*\d+\]\s+(\S+)\s+\S+\s+[0-9a-f]+\s+[0-9a-f]+\s+([0-9a-f]+)\s+\S+\s+(\S*)", line)
         if parts and "A" in parts.group(3):
             found[parts.group(1)] = int(parts.group(2), 16)
@@ -197,8 +198,7 @@ def section_sizes(path):
 
 def check_object(path, made):
     """Refuses an object with compressed instructions, other floats, or thread-local data."""
-    flags = run([CROSS + "readelf", "-h", made]).stdout
-    if "RVC" in flags:
+    if re.search(r"Flags:.*RVC", headers(made)):
         raise Refused(f"{path} has compressed instructions, and the machine has none: leave `.option rvc` out")
     local = [name for name, size in section_sizes(made).items() if size and re.match(r"\.t(data|bss)\b", name)]
     if local:
@@ -207,16 +207,21 @@ def check_object(path, made):
         raise Refused(f"{said}: a compartment has no threads, so compile it with -D _Thread_local= -D __thread=")
 
 
-def symbols(path, kinds="TtWwDdBbRrVvA"):
+@functools.cache
+def listed(path):
+    """The symbols that a file defines, by their addresses: address, kind and name."""
+    rows = (line.split() for line in run([CROSS + "nm", "-n", "--defined-only", path]).stdout.splitlines())
+    return [(int(row[0], 16), row[1], row[2]) for row in rows if len(row) == 3]
+
+
+def symbols(path):
     """The addresses of a linked file's symbols."""
-    rows = (line.split() for line in run([CROSS + "nm", path]).stdout.splitlines())
-    return {row[2]: int(row[0], 16) for row in rows if len(row) == 3 and row[1] in kinds}
+    return {name: address for address, _, name in listed(path)}
 
 
 def defined(path):
     """The functions and data that an object shows to others."""
-    rows = (line.split() for line in run([CROSS + "nm", "-g", "--defined-only", path]).stdout.splitlines())
-    return {row[2] for row in rows if len(row) == 3}
+    return {name for _, kind, name in listed(path) if kind.isupper()}
 
 
 def contents(elf, name):

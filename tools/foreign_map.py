@@ -77,16 +77,15 @@ def read_map(path):
     return found
 
 
-def map_lines(face, elf, size, tool, cross):
+def map_lines(face, elf, size, tool, symbols, cross):
     """The lines of a linked compartment's map."""
     start = face.code_start()
     yield f"compartment {face.name} {start:#010x} {start + size:#010x}"
-    listed = subprocess.run([cross + "nm", "-n", elf], capture_output=True, text=True, check=False).stdout
     seen = set()
-    for row in map(str.split, listed.splitlines()):
-        if len(row) == 3 and row[1] in "TtWw" and start <= int(row[0], 16) < start + size and row[0] not in seen:
-            seen.add(row[0])
-            yield f"function {int(row[0], 16):#010x} {row[2]}"
+    for address, kind, name in symbols:
+        if kind in "TtWw" and start <= address < start + size and address not in seen:
+            seen.add(address)
+            yield f"function {address:#010x} {name}"
     last = None
     for address, function, path, line in instructions(elf, range(start, start + size, 4), cross):
         own = path.startswith(tool) or path == "??"

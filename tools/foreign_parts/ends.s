@@ -32,3 +32,4 @@ secomp_free:
   li a7, 4
   ecall
   ret
+.text
