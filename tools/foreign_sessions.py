@@ -1,0 +1,151 @@
+#!/usr/bin/env python3
+"""Tests tools/foreign: `foreign_sessions.py [--secomp PROGRAM] [--only WORD]`, at the top of the repository.
+
+It runs the sessions of docs/FOREIGN.md, the attempts of its table of hostile code, compartments of C, C++ and assembly,
+and everything that the tool refuses. Without the cross compiler it says that it didn't run, and without a library that
+a session needs that the session didn't. The last line counts; the status is 1 if one failed.
+"""
+import argparse
+import concurrent.futures
+import os
+import re
+import subprocess
+import sys
+import tempfile
+
+from foreign_cases import PROGRAM, REFUSALS, RUNS, STUBS
+from foreign_compile import demand
+from foreign_program import Refused
+from sections import TOP, commands, count, program, read
+
+PAGE = "docs/FOREIGN.md"
+CHECKED = re.compile(r"^secomp: (this program has run-time checks|building ).*\n", re.M)
+ROW = re.compile(r"\| (\d+) \| [^|]+ \| `([^`]+)`[^|]* \|")
+LINKED = ("tools", "docs", "examples")
+
+
+def shell(command, folder, **more):
+    ran = subprocess.run(["bash", "-c", command], cwd=folder, stdin=subprocess.DEVNULL, stdout=subprocess.PIPE,
+                         stderr=subprocess.STDOUT, check=False, env={**os.environ, **more})
+    return ran.returncode, CHECKED.sub("", ran.stdout.decode(errors="replace"))
+
+
+class Folder:
+    """A folder with files, in which the repository's folders and the program stand."""
+
+    def __init__(self, files):
+        self.files, self.made = files, tempfile.TemporaryDirectory()
+
+    def __enter__(self):
+        path = self.made.name
+        for name in LINKED:
+            os.symlink(f"{TOP}/{name}", f"{path}/{name}")
+        os.symlink(os.environ["SECOMP"], f"{path}/secomp")
+        for name, text in self.files.items():
+            with open(os.path.join(path, name), "w", encoding="utf-8") as it:
+                it.write(text)
+        return path
+
+    def __exit__(self, *error):
+        self.made.cleanup()
+
+
+def run_of(files, wanted):
+    """What a run gives that isn't wanted, compiled by gcc."""
+    with Folder({"program.c": PROGRAM, **files}) as path:
+        status, said = shell(f"tools/foreign build program.c Part={','.join(files)} -o image", path)
+        if status:
+            return said
+        _, wrote = shell("./secomp exec --steps 16777216 < image", path)
+    lines = [re.sub(r"(stop trap \w+) .*", r"\1", line) for line in wrote.splitlines()]
+    came = ", ".join(line for line in lines if not re.match("call|ret|end|stop ended", line))
+    return "" if came == wanted else f"gives {came}, not {wanted}"
+
+
+def refusal_of(files, words, wanted):
+    """How an answer differs from a refusal with this sentence and no traceback."""
+    with Folder({"program.c": PROGRAM, **files}) as path:
+        build = words.startswith("build ")
+        command = f"tools/foreign build program.c {words[6:]}" if build else f"tools/foreign program.c {words}"
+        status, said = shell(command + " > /dev/null", path)
+    return "" if status == 2 and wanted in said and "Traceback" not in said else f"status {status}: {said}"
+
+
+def stub_of(header, wanted):
+    with Folder({"part.h": header}) as path:
+        status, said = shell("tools/foreign --stub part.h Part", path)
+    good = status == 0 and said == wanted if wanted.startswith("#") else status == 2 and wanted in said
+    return "" if good and "Traceback" not in said else f"status {status}: {said}"
+
+
+def without_compiler():
+    """Where the cross compiler is missing, the package is named."""
+    with Folder({"program.c": PROGRAM, "a.c": ""}) as path:
+        words = f"{sys.executable} tools/foreign program.c Part a.c"
+        status, said = shell(words, path, PATH=path)
+    wanted = "riscv64-unknown-elf-gcc is missing: apt-get install gcc-riscv64-unknown-elf"
+    return "" if status == 2 and wanted in said else f"status {status}: {said}"
+
+
+def attempts():
+    """How the attempts of the table in the document end, which are made one after the other on one image."""
+    rows = ROW.findall(read(f"{TOP}/{PAGE}").decode())
+    with Folder({}) as path:
+        words = "examples/foreign/hostile_program.c Hostile=examples/foreign/hostile.c"
+        status, said = shell(f"tools/foreign build {words} -o image", path)
+        if status or not rows:
+            return said or f"{PAGE} has no table"
+        for number, wanted in rows:
+            _, wrote = shell(f"./secomp exec --in {number} < image", path)
+            if wanted not in re.sub(r" 0x[0-9a-f]{8}$", "", wrote, flags=re.M).splitlines():
+                return f"attempt {number} gives {wrote}, and {wanted} is wanted"
+    return ""
+
+
+def sessions():
+    """How the sessions of the document go, one after the other; the libraries' only where they are here."""
+    wrong = []
+    with Folder({}) as path:
+        for command, shown, _ in commands(f"{TOP}/{PAGE}"):
+            if command.startswith("apt-get") or "fetch" in command:
+                continue
+            if "jsmn" in command and not os.path.exists("/usr/include/jsmn.h"):
+                print(f"the sessions of {PAGE} weren't tried: apt-get install libjsmn-dev")
+                break
+            _, wrote = shell(command, path)
+            if wrote != shown:
+                wrong.append(f"$ {command}\nwrote\n{wrote}in place of\n{shown}")
+    return "\n".join(wrong)
+
+
+def tests():
+    """The name of each test, and what says how it failed."""
+    yield "the sessions", sessions
+    yield "the attempts", attempts
+    yield "without the compiler", without_compiler
+    for name, files, wanted in RUNS:
+        yield name, lambda files=files, wanted=wanted: run_of(files, wanted)
+    for name, files, words, wanted in REFUSALS:
+        yield name, lambda files=files, words=words, wanted=wanted: refusal_of(files, words, wanted)
+    for name, header, wanted in STUBS:
+        yield f"--stub of {name}", lambda header=header, wanted=wanted: stub_of(header, wanted)
+
+
+def main():
+    options = argparse.ArgumentParser(description=__doc__.split("\n", maxsplit=1)[0])
+    options.add_argument("--secomp", metavar="PROGRAM", help="the program in place of what ./secomp runs")
+    options.add_argument("--only", metavar="WORD", default="", help="only tests in whose name it stands")
+    given = options.parse_args()
+    try:
+        demand("gcc")
+    except Refused as refused:
+        print(f"tools/foreign wasn't tested: {refused}")
+        return 0
+    os.environ["SECOMP"] = os.path.abspath(given.secomp) if given.secomp else program()
+    with concurrent.futures.ThreadPoolExecutor(4) as pool:
+        running = [(name, pool.submit(test)) for name, test in tests() if given.only in name]
+        return count(test.result() and f"{name}: {test.result()}" for name, test in running)
+
+
+if __name__ == "__main__":
+    sys.exit(main())
