@@ -61,7 +61,7 @@ RUNS = [
       #include <stdlib.h>
       """ + WORK + """{
         int sum = 0;
-        for (int round = 0; round < 100; round++) {
+        for (int round = 0; round < 20; round++) {
           char *one = malloc(10000), *other = calloc(100, 100), *aligned = aligned_alloc(64, 3);
           if (!one || !other || !aligned || (uintptr_t)aligned % 64) return -1;
           one[9999] = 5;
@@ -72,7 +72,7 @@ RUNS = [
           free(aligned);
         }
         return sum + (malloc(300000) == 0) + first;
-      }"""}, "out Main 502, out Main 504"),
+      }"""}, "out Main 102, out Main 104"),
     ("C++ with constructors at the first call", {"a.cc": """
       struct Base { virtual int give() = 0; virtual ~Base() {} };
       struct Count : Base { int count; Count() : count(40) {} int give() override { return ++count; } };

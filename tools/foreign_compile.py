@@ -8,7 +8,7 @@ import subprocess
 
 from foreign_program import MOST_CODE, MOST_GLOBALS, Refused, write
 
-PARTS = os.path.join(os.path.dirname(os.path.abspath(__file__)), "foreign_parts", "all.c")
+PARTS = os.path.join(os.path.dirname(os.path.abspath(__file__)), "foreign_parts")
 CROSS = "riscv64-unknown-elf-"
 PACKAGES = {CROSS + "gcc": "gcc-riscv64-unknown-elf", CROSS + "g++": "gcc-riscv64-unknown-elf",
             CROSS + "ld": "binutils-riscv64-unknown-elf", "clang": "clang", "clang++": "clang"}
@@ -61,7 +61,7 @@ def compiler_words(compiler, kind):
                  "-ftls-model=local-exec", "-Wno-unused-command-line-argument", "-isystem", f"{LIBRARY}/include"]
     else:
         words = [CROSS + ("g++" if plus else "gcc"), *TARGET, *COMMON, "-mstrict-align", "-msmall-data-limit=0",
-                 f"--specs=picolibc{'cpp' if plus else ''}.specs"]
+                 f"--specs=picolibc{'pp' if plus else ''}.specs"]
     return words + (PLUS if plus else [])
 
 
@@ -91,10 +91,10 @@ class Build:
     def link(self, face, is_main):
         """The linked file; where constructors or thread-local data are, the entries go through a start."""
         parts = os.path.join(self.folder, "parts.o")
-        done = run([*compiler_words("gcc", "C"), "-I", os.path.dirname(PARTS), f"-Wa,-I{os.path.dirname(PARTS)}", "-c", PARTS, "-o",
-                    parts])
+        # Without -fno-builtin gcc would make a call of calloc of what calloc does.
+        done = run([*compiler_words("gcc", "C"), "-fno-builtin", f"-Wa,-I{PARTS}", "-c", f"{PARTS}/all.c", "-o", parts])
         if done.returncode:
-            raise Refused(f"{PARTS} isn't accepted: {done.stderr.rstrip()}")
+            raise Refused(f"{PARTS}/all.c isn't accepted: {done.stderr.rstrip()}")
         elf = self.link_once(face, is_main, parts, set())
         wanted = {"thread"} if section_sizes(elf).get(".tdata") or section_sizes(elf).get(".tbss") else set()
         if symbols(elf)["secomp_constructors"] != symbols(elf)["secomp_constructors_end"]:

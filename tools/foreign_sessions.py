@@ -20,12 +20,14 @@ from sections import TOP, commands, count, program, read
 
 PAGE = "docs/FOREIGN.md"
 CHECKED = re.compile(r"^secomp: (this program has run-time checks|building ).*\n", re.M)
+ADDRESS = re.compile(r"\b0x[0-9a-f]{8}\b")
 ROW = re.compile(r"\| (\d+) \| [^|]+ \| `([^`]+)`[^|]* \|")
+HOSTILE = ("examples/foreign/hostile_program.c", "Hostile=examples/foreign/hostile.c", "Spy=examples/foreign/spy.s")
 LINKED = ("tools", "docs", "examples")
 
 
 def shell(command, folder, **more):
-    ran = subprocess.run(["bash", "-c", command], cwd=folder, stdin=subprocess.DEVNULL, stdout=subprocess.PIPE,
+    ran = subprocess.run(["/bin/bash", "-c", command], cwd=folder, stdin=subprocess.DEVNULL, stdout=subprocess.PIPE,
                          stderr=subprocess.STDOUT, check=False, env={**os.environ, **more})
     return ran.returncode, CHECKED.sub("", ran.stdout.decode(errors="replace"))
 
@@ -91,8 +93,7 @@ def attempts():
     """How the attempts of the table in the document end, which are made one after the other on one image."""
     rows = ROW.findall(read(f"{TOP}/{PAGE}").decode())
     with Folder({}) as path:
-        words = "examples/foreign/hostile_program.c Hostile=examples/foreign/hostile.c"
-        status, said = shell(f"tools/foreign build {words} -o image", path)
+        status, said = shell(f"tools/foreign build {' '.join(HOSTILE)} -o image", path)
         if status or not rows:
             return said or f"{PAGE} has no table"
         for number, wanted in rows:
@@ -103,7 +104,8 @@ def attempts():
 
 
 def sessions():
-    """How the sessions of the document go, one after the other; the libraries' only where they are here."""
+    """How the sessions of the document go, one after the other, where their library is here. Addresses of code are those
+    of one version of gcc, and aren't compared."""
     wrong = []
     with Folder({}) as path:
         for command, shown, _ in commands(f"{TOP}/{PAGE}"):
@@ -113,7 +115,7 @@ def sessions():
                 print(f"the sessions of {PAGE} weren't tried: apt-get install libjsmn-dev")
                 break
             _, wrote = shell(command, path)
-            if wrote != shown:
+            if ADDRESS.sub("", wrote) != ADDRESS.sub("", shown):
                 wrong.append(f"$ {command}\nwrote\n{wrote}in place of\n{shown}")
     return "\n".join(wrong)
 
