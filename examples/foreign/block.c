@@ -1,5 +1,5 @@
-/* The section Block of blocks.c: LZ4 over a block, which comes as the number of bytes that it says to unpack to, its
-   length and its bytes. */
+/* The section Block of blocks.c: LZ4 over a block, which comes as the number of bytes that it says it has, its length
+   and its bytes. */
 #include "lz4.h"
 #include "section.h"
 
@@ -12,7 +12,7 @@ int unpack(void) {
     if (length < (int)sizeof packed) packed[length++] = (char)byte;
   }
   if (said > (int)sizeof unpacked) return -1;
-  return LZ4_decompress_safe(packed, unpacked, length, said);
+  return LZ4_decompress_safe_partial(packed, unpacked, length, said, sizeof unpacked);
 }
 
 int word(int at) {

@@ -14,12 +14,14 @@ int unpack(void) {
   }
   if (inflateInit2(&stream, 15 + 32) != Z_OK) return -1;
   inflateGetHeader(&stream, &header);
-  /* In two parts, as a message from the network comes. */
-  unsigned all = stream.avail_in;
-  stream.avail_in = all < 24 ? all : 24;
-  int answer = inflate(&stream, Z_SYNC_FLUSH);
-  stream.avail_in += all < 24 ? 0 : all - 24;
-  if (answer == Z_OK) answer = inflate(&stream, Z_FINISH);
+  /* In parts, as a message from the network comes. */
+  unsigned left = stream.avail_in;
+  int answer = Z_OK;
+  while (answer == Z_OK && left > 0) {
+    stream.avail_in = left < 100 ? left : 100;
+    left -= stream.avail_in;
+    answer = inflate(&stream, Z_SYNC_FLUSH);
+  }
   inflateEnd(&stream);
   return answer == Z_STREAM_END ? (int)stream.total_out : -2;
 }
