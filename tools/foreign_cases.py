@@ -71,7 +71,8 @@ RUNS = [
           free(other);
           free(aligned);
         }
-        return sum + (malloc(300000) == 0) + first;
+        void *volatile large = malloc(300000);
+        return sum + (large == 0) + first;
       }"""}, "out Main 102, out Main 104"),
     ("C++ with constructors at the first call", {"a.cc": """
       struct Base { virtual int give() = 0; virtual ~Base() {} };
@@ -91,6 +92,14 @@ RUNS = [
         if (first == 3) free(block);
         return second;
       }"""}, "out Main 2, stop trap badfree"),
+]
+
+# What goes wrong with a map, and what stands in the answer.
+MAPS = [
+    ("where with a map that isn't there", "tools/where --map lost.map", "where: lost.map: No such file"),
+    ("where with a file that is no map", "tools/where --map program.c", "where: program.c is no map"),
+    ("where with a line that is none", "tools/where --map bad.map", "where: bad.map:2: no line of a map"),
+    ("image with a file that is no map", "tools/image --map program.c", "image: program.c is no map"),
 ]
 
 # What is refused, the files, the words after PROGRAM, and what stands in the sentence.

@@ -9,11 +9,12 @@ import argparse
 import concurrent.futures
 import os
 import re
+import shutil
 import subprocess
 import sys
 import tempfile
 
-from foreign_cases import PROGRAM, REFUSALS, RUNS, STUBS
+from foreign_cases import MAPS, PROGRAM, REFUSALS, RUNS, STUBS
 from foreign_compile import demand
 from foreign_program import Refused
 from sections import TOP, commands, count, program, read
@@ -52,10 +53,10 @@ class Folder:
         self.made.cleanup()
 
 
-def run_of(files, wanted):
-    """What a run gives that isn't wanted, compiled by gcc."""
+def run_of(files, compiler, wanted):
+    """What a run gives that isn't wanted."""
     with Folder({"program.c": PROGRAM, **files}) as path:
-        status, said = shell(f"tools/foreign build program.c Part={','.join(files)} -o image", path)
+        status, said = shell(f"tools/foreign build program.c Part={','.join(files)} --cc {compiler} -o image", path)
         if status:
             return said
         _, wrote = shell("./secomp exec --steps 16777216 < image", path)
@@ -80,13 +81,42 @@ def stub_of(header, wanted):
     return "" if good and "Traceback" not in said else f"status {status}: {said}"
 
 
+def map_of(command, wanted):
+    with Folder({"program.c": PROGRAM, "bad.map": "secomp map 1\nfrom here\n"}) as path:
+        status, said = shell(command, path)
+    return "" if status == 2 and wanted in said and "Traceback" not in said else f"status {status}: {said}"
+
+
 def without_compiler():
     """Where the cross compiler is missing, the package is named."""
     with Folder({"program.c": PROGRAM, "a.c": ""}) as path:
         words = f"{sys.executable} tools/foreign program.c Part a.c"
         status, said = shell(words, path, PATH=path)
-    wanted = "riscv64-unknown-elf-gcc is missing: apt-get install gcc-riscv64-unknown-elf"
-    return "" if status == 2 and wanted in said else f"status {status}: {said}"
+        if status != 2 or "riscv64-unknown-elf-gcc is missing: apt-get install gcc-riscv64-unknown-elf" not in said:
+            return f"status {status}: {said}"
+        os.symlink(shutil.which("riscv64-unknown-elf-gcc"), f"{path}/riscv64-unknown-elf-gcc")
+        status, said = shell(words + " --cc clang", path, PATH=path)
+    return "" if status == 2 and "clang is missing: apt-get install clang" in said else f"status {status}: {said}"
+
+
+def full_output():
+    """Outputs that take nothing get a sentence, too."""
+    with Folder({"program.c": PROGRAM}) as path:
+        status, said = shell("tools/foreign --header program.c Part > /dev/full", path)
+        if status != 2 or "Traceback" in said:
+            return f"/dev/full: status {status}: {said}"
+        _, said = shell("for n in 1 2 3; do tools/foreign --header program.c Part | true; done", path)
+    return said
+
+
+def image_of():
+    """What tools/image says of a foreign function with a map."""
+    with Folder({"program.c": PROGRAM, "a.c": "\nint work(int first, int second) { return first - second; }\n"}) as path:
+        shell("tools/foreign build program.c Part=a.c -o image", path)
+        _, said = shell("tools/image program.c --map image.map < image", path)
+        found = re.search(r"^work:\n  ([0-9a-f]{8})", said, re.M)
+        _, place = shell(f"tools/image --pc 0x{found.group(1)} --map image.map < image", path) if found else (0, said)
+    return "" if re.match("Part, work: .*    a.c:2 in work\n", place) and "\nmain:\n" in said else place
 
 
 def attempts():
@@ -125,8 +155,13 @@ def tests():
     yield "the sessions", sessions
     yield "the attempts", attempts
     yield "without the compiler", without_compiler
-    for name, files, wanted in RUNS:
-        yield name, lambda files=files, wanted=wanted: run_of(files, wanted)
+    yield "an output that is full or closed", full_output
+    yield "image with a map", image_of
+    for compiler in ("gcc", "clang") if shutil.which("clang") else ("gcc",):
+        for name, files, wanted in RUNS:
+            yield f"{name}, by {compiler}", lambda files=files, by=compiler, wanted=wanted: run_of(files, by, wanted)
+    for name, command, wanted in MAPS:
+        yield name, lambda command=command, wanted=wanted: map_of(command, wanted)
     for name, files, words, wanted in REFUSALS:
         yield name, lambda files=files, words=words, wanted=wanted: refusal_of(files, words, wanted)
     for name, header, wanted in STUBS:
