@@ -15,8 +15,8 @@ PACKAGES = {CROSS + "gcc": "gcc-riscv64-unknown-elf", CROSS + "g++": "gcc-riscv6
 LIBRARY = "/usr/lib/picolibc/riscv64-unknown-elf"
 KINDS = {".c": "C", ".cc": "C++", ".cpp": "C++", ".cxx": "C++", ".C": "C++", ".s": "assembly", ".S": "assembly"}
 TARGET = ["-march=rv32im", "-mabi=ilp32", "-mno-relax"]
-COMMON = ["-gdwarf-4", "-O2", "-ffunction-sections", "-fdata-sections", "-fno-pic", "-fno-stack-protector", "-fno-exceptions",
-          "-fno-asynchronous-unwind-tables"]
+COMMON = ["-gdwarf-4", "-O2", "-ffunction-sections", "-fdata-sections", "-fno-pic", "-fno-stack-protector",
+          "-fno-exceptions", "-fno-asynchronous-unwind-tables"]
 PLUS = ["-fno-rtti", "-fno-threadsafe-statics"]
 SAVED = ["ra", *[f"s{number}" for number in range(12)], "gp", "tp"]
 LAYOUT = """SECTIONS {

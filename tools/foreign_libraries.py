@@ -86,7 +86,8 @@ def of_lz4(folder):
         if subprocess.run(words_of, check=False).returncode:
             return
         library = ctypes.CDLL(f"{made}/lz4.so")
-        for number, text in enumerate((read(f"{folder}/README.md")[:1400], b"hello, hello, hello, hello!", bytes(3000))):
+        texts = (read(f"{folder}/README.md")[:1400], b"hello, hello, hello, hello!", bytes(3000))
+        for number, text in enumerate(texts):
             place = ctypes.create_string_buffer(8192)
             size = library.LZ4_compress_default(text, place, len(text), 8192)
             said = words(text)

@@ -111,7 +111,8 @@ def full_output():
 
 def image_of():
     """What tools/image says of a foreign function with a map."""
-    with Folder({"program.c": PROGRAM, "a.c": "\nint work(int first, int second) { return first - second; }\n"}) as path:
+    text = "\nint work(int first, int second) { return first - second; }\n"
+    with Folder({"program.c": PROGRAM, "a.c": text}) as path:
         shell("tools/foreign build program.c Part=a.c -o image", path)
         _, said = shell("tools/image program.c --map image.map < image", path)
         found = re.search(r"^work:\n  ([0-9a-f]{8})", said, re.M)
@@ -133,9 +134,20 @@ def attempts():
     return ""
 
 
+def main_of():
+    """A run in which main is foreign, too, and has a constructor."""
+    text = '#include "section.h"\nstatic int at = twice(3);\nint main() { output(work(at, 1)); return at; }\n'
+    files = {"m.cc": text, "a.c": "int work(int first, int second) { return 10 * first + second; }\n"}
+    with Folder({"program.c": PROGRAM, **files}) as path:
+        _, said = shell("tools/foreign build program.c Main=m.cc Part=a.c -o image && ./secomp exec < image", path)
+    wanted = "call Main Other twice 3\nret Other Main 6\ncall Main Part work 6 1\nret Part Main 61\n" \
+             "out Main 61\nend Main 6\nstop ended\n"
+    return "" if said.endswith(wanted) else said
+
+
 def sessions():
-    """How the sessions of the document go, one after the other, where their library is here. Addresses of code are those
-    of one version of gcc, and aren't compared."""
+    """How the sessions of the document go, one after the other, where their library is here. Addresses of code are
+    those of one version of gcc, and aren't compared."""
     wrong = []
     with Folder({}) as path:
         for command, shown, _ in commands(f"{TOP}/{PAGE}"):
@@ -157,6 +169,7 @@ def tests():
     yield "without the compiler", without_compiler
     yield "an output that is full or closed", full_output
     yield "image with a map", image_of
+    yield "main is foreign", main_of
     for compiler in ("gcc", "clang") if shutil.which("clang") else ("gcc",):
         for name, files, wanted in RUNS:
             yield f"{name}, by {compiler}", lambda files=files, by=compiler, wanted=wanted: run_of(files, by, wanted)

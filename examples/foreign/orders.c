@@ -28,6 +28,8 @@ int amount(int order) {
 
 int word(int at) {
   int value = 0, length = printed ? (int)strlen(printed) : 0;
-  for (int place = at; place < at + 4; place++) value = value * 256 + (place >= 0 && place < length ? printed[place] : 0);
+  for (int place = at; place < at + 4; place++) {
+    value = value * 256 + (place >= 0 && place < length ? printed[place] : 0);
+  }
   return value;
 }
