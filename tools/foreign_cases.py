@@ -94,8 +94,10 @@ RUNS = [
       }"""}, "out Main 2, stop trap badfree"),
 ]
 
-# What goes wrong with a map, and what stands in the answer.
+# What goes wrong with maps and with other scripts, and what stands in the answer.
 MAPS = [
+    ("fetch with two folders", "examples/foreign/fetch a b", "usage: examples/foreign/fetch [FOLDER]"),
+    ("fetch with an option", "examples/foreign/fetch --fast", "usage: examples/foreign/fetch [FOLDER]"),
     ("where with a map that isn't there", "tools/where --map lost.map", "where: lost.map: No such file"),
     ("where with a file that is no map", "tools/where --map program.c", "where: program.c is no map"),
     ("where with a line that is none", "tools/where --map bad.map", "where: bad.map:2: no line of a map"),
