@@ -58,10 +58,11 @@ def compiler_words(compiler, kind):
     plus = kind == "C++"
     if compiler == "clang":
         words = ["clang++" if plus else "clang", "--target=riscv32-unknown-elf", *TARGET, *COMMON,
-                 "-ftls-model=local-exec", "-Wno-unused-command-line-argument", "-isystem", f"{LIBRARY}/include"]
+                 "-ftls-model=local-exec", "-ferror-limit=5", "-Wno-unused-command-line-argument",
+                 "-isystem", f"{LIBRARY}/include"]
     else:
         words = [CROSS + ("g++" if plus else "gcc"), *TARGET, *COMMON, "-mstrict-align", "-msmall-data-limit=0",
-                 f"--specs=picolibc{'pp' if plus else ''}.specs"]
+                 "-fmax-errors=5", f"--specs=picolibc{'pp' if plus else ''}.specs"]
     return words + (PLUS if plus else [])
 
 

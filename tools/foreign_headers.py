@@ -58,7 +58,7 @@ def declared(path, options, folder):
     """Each function that a header itself declares: its name, its result and its parameters in the text's words."""
     listing, source, made = (os.path.join(folder, name) for name in ("listing", "types.c", "types.o"))
     include = f'#include "{os.path.abspath(path)}"\n'
-    compiler = [CROSS + "gcc", *TARGET, *COMMON, "--specs=picolibc.specs", *options]
+    compiler = [CROSS + "gcc", *TARGET, *COMMON, "-fmax-errors=5", "--specs=picolibc.specs", *options]
     write(source, include.encode())
     done = run([*compiler, "-aux-info", listing, "-c", source, "-o", made])
     if done.returncode:
