@@ -175,6 +175,8 @@ def said(trace, attacked):
         else:
             text = f"outputs {words[2]}" if kind == "out" else {"in": "reads an input", "end": "ends"}[kind]
         if who in attacked:
-            told.append(f"{who} {text} after {number} event{'' if number == 1 else 's'}")
-    before = [f"{len(told) - MOST_TOLD} more things are done"] if len(told) > MOST_TOLD else []
-    return ", ".join(before + told[-MOST_TOLD:]) or "nothing is done by what is attacked"
+            times = told.pop()[1] if told and told[-1][0] == f"{who} {text}" else 0
+            told.append((f"{who} {text}", times + 1, f"after {number} event{'' if number == 1 else 's'}"))
+    shown = [f"{text} {f'{times} times, the last ' if times > 1 else ''}{after}" for text, times, after in told]
+    more = ["..."] if len(shown) > MOST_TOLD else []
+    return ", ".join(more + shown[-MOST_TOLD:]) or "nothing is done by what is attacked"
