@@ -4,7 +4,6 @@ Their statuses are 0 where nothing was found, 1 where something was, and 2 for b
 """
 import os
 import re
-import signal
 import subprocess
 import sys
 
@@ -74,10 +73,13 @@ def input_lists(given):
 
 
 def ends(main, name):
-    """Runs a tool to its status."""
-    signal.signal(signal.SIGPIPE, signal.SIG_DFL)
+    """Runs a tool to its status; 2 also where what it writes to was closed."""
     try:
         status = main()
+        sys.stdout.flush()
+    except BrokenPipeError:
+        os.dup2(os.open(os.devnull, os.O_WRONLY), sys.stdout.fileno())
+        status = 2
     except Bad as error:
         print(f"{name}: {error}", file=sys.stderr)
         status = 2

@@ -179,4 +179,4 @@ def said(trace, attacked):
             told.append((f"{who} {text}", times + 1, f"after {number} event{'' if number == 1 else 's'}"))
     shown = [f"{text} {f'{times} times, the last ' if times > 1 else ''}{after}" for text, times, after in told]
     more = ["..."] if len(shown) > MOST_TOLD else []
-    return ", ".join(more + shown[-MOST_TOLD:]) or "nothing is done by what is attacked"
+    return "when " + ", ".join(more + shown[-MOST_TOLD:]) if shown else "before they do anything"
