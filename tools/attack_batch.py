@@ -9,7 +9,7 @@ import os
 import subprocess
 import sys
 
-from attack_text import Interface, written
+from attack_text import Bad, Interface, written
 
 BOUNDS = {"meaning": ["--turns=20000", "--events=4096"], "run": ["--steps=400000", "--events=1024"],
           "judge": ["--steps=400000", "--events=1024"]}
@@ -38,7 +38,7 @@ class Plan:
         ran = subprocess.run(words, input=text.encode("latin-1"), capture_output=True, check=False)
         if ran.returncode:
             said = ran.stderr.decode(errors="replace").strip().split("\n")[0]
-            raise SystemExit(f"attack: status {ran.returncode} of `{command}` for a text made here: {said}")
+            raise Bad(f"status {ran.returncode} of `{command}` for a text made here: {said}")
         return ran.stdout.decode().splitlines()
 
 
@@ -103,4 +103,7 @@ def main(batch):
 
 
 if __name__ == "__main__":
-    main(sys.argv[1])
+    try:
+        main(sys.argv[1])
+    except Bad as error:
+        raise SystemExit(str(error)) from None

@@ -170,7 +170,7 @@ def main():
         with open(f"{folder}/secomp", "w", encoding="utf-8") as it:
             it.write(f'#!/bin/sh\n[ "$SECOMP_WHICH" = 1 ] && echo {path} && exit\nexec {path} "$@"\n')
         os.chmod(f"{folder}/secomp", 0o755)
-        os.environ["HOME"] = folder
+        os.environ.update(HOME=folder, SECOMP=path)
         return count(answers(asked, folder))
 
 

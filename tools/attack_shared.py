@@ -7,14 +7,11 @@ import re
 import subprocess
 import sys
 
+from attack_text import Bad
 from sections import MOST_ARGUMENT, MOST_NUMBERS, program
 
 LIST = re.compile(r"-?\d{1,10}(,-?\d{1,10})*|")
 COMMANDS = ("check", "meaning", "run", "judge")
-
-
-class Bad(Exception):
-    """Bad words or bad input, in words."""
 
 
 def read(path):
@@ -27,7 +24,8 @@ def read(path):
 
 
 def program_path(given):
-    """The program to run: this one, or what `./secomp` runs."""
+    """The program to run: this one, that of the environment's SECOMP, or what `./secomp` runs."""
+    given = given or os.environ.get("SECOMP")
     path = os.path.abspath(given) if given else program()
     try:
         ran = subprocess.run([path], stdin=subprocess.DEVNULL, capture_output=True, check=False)

@@ -18,6 +18,10 @@ NOTHING = [[], 0, None]
 MOST_TOLD = 4
 
 
+class Bad(Exception):
+    """Bad words or bad input, or a run that failed, in words."""
+
+
 def wrapped(number):
     """A number as a word of 32 bits, with its sign."""
     return (number - LEAST) % 2**32 + LEAST
