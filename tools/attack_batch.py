@@ -1,8 +1,8 @@
 """Runs some behaviours of an attack: `attack_batch.py BATCH`, in the folder that tools/attack laid out.
 
-BATCH is a list of behaviours in JSON. What each run shows goes to BATCH.out, a line each: how the meaning stops, and the
-features that it reached; with a policy also how the machine stops, and the verdict. It needs nothing but what lies in
-the folder, so that it runs on another machine too. Nothing of this is proved.
+BATCH is a list of behaviours in JSON. What each run shows goes to BATCH.out, a line each: how the meaning stops, and
+the features that it reached; with a policy also how the machine stops, and the verdict. It needs nothing but what lies
+in the folder, so that it runs on another machine too. Nothing of this is proved.
 """
 import json
 import os

@@ -10,9 +10,10 @@ import re
 from attack_text import LEAST, MOST, NOTHING, wrapped
 
 ROUND = 100
+MOST_SLOTS = 12
 CORE = [0, 1, -1, 2, MOST, LEAST]
-LIMITS = [3, 4, 5, 7, 8, 9, 15, 16, 31, 32, 33, 63, 64, 65, 100, 127, 128, 255, 256, 257, 1000, 4096, 32767, 32768, 65535,
-          65536, 70000, 1 << 20, 1 << 30, MOST - 1, LEAST + 1, -2, -3, -16, -100, -65536]
+LIMITS = [3, 4, 5, 7, 8, 9, 15, 16, 31, 32, 33, 63, 64, 65, 100, 127, 128, 255, 256, 257, 1000, 4096, 32767, 32768,
+          65535, 65536, 70000, 1 << 20, 1 << 30, MOST - 1, LEAST + 1, -2, -3, -16, -100, -65536]
 TIMES = [2, 3, 4, 5, 8, 9, 16, 17, 32, 33, 64, 65, 100, 128, 129, 256, 257, 300]
 NUMBER = re.compile(r"(?<![\w.])(0[xX][0-9a-fA-F]+|\d+)[uU]?\b")
 
@@ -69,7 +70,8 @@ class Values:
         """Another value, close to one where it is a number."""
         if isinstance(value, list) or value is None or chance.random() < 0.5:
             return self.draw(chance)
-        return wrapped(chance.choice([value + 1, value - 1, -value, value * 2, value // 2, value ^ 1, ~value, MOST - value]))
+        near = [value + 1, value - 1, -value, value * 2, value // 2, value ^ 1, ~value, MOST - value]
+        return wrapped(chance.choice(near))
 
 
 class Search:
@@ -81,12 +83,12 @@ class Search:
         self.waiting = list(self.first_ones())
 
     def first_ones(self):
-        """The recorded runs; with each call and each return changed to each of the first values; and each import called
-        with them."""
+        """The recorded runs; with each return and each argument changed to each of the first values; and with one more
+        call of each import."""
         yield from self.recorded
-        for base in self.recorded:
-            for name, face in self.faces.items():
-                for value in self.values.first[:24]:
+        for value in self.values.first[:24]:
+            for base in self.recorded:
+                for name, face in self.faces.items():
                     yield from self.with_value(base, name, face, value)
 
     def with_value(self, base, name, face, value):
@@ -95,14 +97,24 @@ class Search:
                 plain = self.without_entries(base)
                 plain["parts"][name]["rest"][function] = [[], value, None]
                 yield plain
+        for number, entry in enumerate(base["parts"][name]["entries"][:MOST_SLOTS]):
+            for at, call in enumerate(entry[0][:MOST_SLOTS]):
+                for argument in range(len(call[1])):
+                    changed = copy.deepcopy(base)
+                    changed["parts"][name]["entries"][number][0][at][1][argument] = value
+                    yield changed
         for function, (_, _, types) in face.imports.items():
-            if function != "input" or types:
-                changed = copy.deepcopy(base)
-                call = [function, [value] * len(types), 1]
-                entries = changed["parts"][name]["entries"]
-                for entry in entries[:1] or [changed["parts"][name]["rest"].setdefault("main", copy.deepcopy(NOTHING))]:
-                    entry[0].insert(0, call)
-                yield changed
+            if types or function != "input":
+                yield self.with_call(base, name, [function, [value] * len(types), 1])
+
+    def with_call(self, base, name, call):
+        """A recorded behaviour with one more call, at the end of the first entry."""
+        changed = copy.deepcopy(base)
+        part = changed["parts"][name]
+        function = next(iter(self.faces[name].functions()))
+        entry = part["entries"][0] if part["entries"] else part["rest"].setdefault(function, copy.deepcopy(NOTHING))
+        entry[0].append(call)
+        return changed
 
     def without_entries(self, base):
         """A behaviour that returns the value that each function returned last, and does nothing."""
@@ -163,7 +175,8 @@ class Search:
         """An entry; one of `main` would be the only one, so it calls more."""
         calls = []
         if face.imports and (face.main or chance.random() < 0.3):
-            calls = [self.drawn_call(face, chance) for _ in range(chance.choice([1, 2, 3, 6] if face.main else [1, 1, 2]))]
+            count = chance.choice([1, 2, 3, 6] if face.main else [1, 1, 2])
+            calls = [self.drawn_call(face, chance) for _ in range(count)]
         return [calls, self.values.draw(chance), None]
 
     def chosen(self, part, face, chance):

@@ -2,10 +2,10 @@
 """Tests tools/attack and tools/secret: `attack_sessions.py [--runs N] [--secomp PATH] [WORD]`, at the top.
 
 Each program of examples/attacked has a weakness, which must be found, and a mended twin, in which nothing must be found
-in N runs (200; 2,000 take some minutes). Then bad words and bad inputs get their answers, the same attack finds the same
-with and without GNU parallel and when it is started again, and the sessions of docs/ATTACK.md write what they show. With
-WORD only those tests are run whose name has it. What needs GNU parallel says that it didn't run where that isn't there.
-The last line counts; the status is 1 if one failed.
+in N runs (200; 2,000 take some minutes). Then bad words and bad inputs get their answers, the same attack finds the
+same with and without GNU parallel and when it is started again, and the sessions of docs/ATTACK.md write what they
+show. With WORD, one of attacked, bad_uses, changes, agreement and sessions, only that test is run. What needs GNU
+parallel says that it didn't run where that isn't there. The last line counts; the status is 1 if one failed.
 """
 import argparse
 import os
@@ -109,7 +109,8 @@ def bad_uses(asked, folder):
     for line in ("attack --help", "secret --help"):
         out, err, status = run([f"tools/{line.split()[0]}", "--help"], folder)
         yield line, "" if status == 0 and "of this is proved" in out and not err else f"{line}\n{out}{err}"
-    for line in (f"attack {STORE} Main --runs 1 --jobs 1 --results {folder}/closed", f"secret {STORE} Net.key --values 1"):
+    short = f"attack {STORE} Main --runs 1 --jobs 1 --results {folder}/closed"
+    for line in (short, f"secret {STORE} Net.key --values 1"):
         out, err, _ = run(["bash", "-c", f"tools/{line} | true"], folder)
         yield f"closed: {line}", err
 

@@ -172,10 +172,10 @@ class Shrinking:
 
 
 def smallest(plan, kind, key, behaviour):
-    """What shows the same with less, or nothing where the text without marks doesn't show it; and the runs spent."""
+    """What shows the same with less, or nothing where the text without marks doesn't show it."""
     work = Shrinking(plan, kind, key, behaviour)
     if work.best.key != key:
-        return None, work.runs
+        return None
     work.replay()
     before = None
     while before != work.best.cost and work.runs < BUDGET:
@@ -185,4 +185,4 @@ def smallest(plan, kind, key, behaviour):
         work.fewer_times()
         work.smaller_numbers()
         work.replay()
-    return work.best, work.runs
+    return work.best

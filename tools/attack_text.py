@@ -1,11 +1,11 @@
 """Texts in which attacked sections do as a behaviour says, and behaviours that do as a trace says.
 
-A behaviour is {"input": I, "parts": {SECTION: {"entries": [ENTRY, ..], "rest": {FUNCTION: ENTRY}}}}. An entry of a section
-is a call of one of its exports, or the start of its `main`; the first is entry 0. ENTRY is [CALLS, VALUE, FUNCTION]: what
-the section calls there, what it returns, and in which function this counts, None for any. An entry beyond the list, or
-of another function, does as `rest` says. A call is [FUNCTION, VALUES, TIMES]. A value is a number of 32 bits with a sign,
-or [WHAT, N]: what the last call returned ("result"), the entry's first argument ("argument"), or how many rounds of the
-call's repetition are done ("round"), each with N added.
+A behaviour is {"input": I, "parts": {SECTION: {"entries": [ENTRY, ..], "rest": {FUNCTION: ENTRY}}}}. An entry of a
+section is a call of one of its exports, or the start of its `main`; the first is entry 0. ENTRY is [CALLS, VALUE,
+FUNCTION]: what the section calls there, what it returns, and in which function this counts, None for any. An entry
+beyond the list, or of another function, does as `rest` says. A call is [FUNCTION, VALUES, TIMES]. A value is a number
+of 32 bits with a sign, or [WHAT, N]: what the last call returned ("result"), the entry's first argument ("argument"),
+or how many rounds of the call's repetition are done ("round"), each with N added.
 
 This file stands alone, since it is copied to other machines. Nothing of it is proved.
 """
