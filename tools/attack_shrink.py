@@ -47,8 +47,13 @@ class Shown:
         self.behaviour = behaviour
         lines = plan.report(COMMAND[kind], behaviour, bounds=BOUNDS[kind])
         self.key, length = found(kind, lines, plan)
+        if kind == "trap" and self.key and self.is_blamed(plan):
+            self.key = None
         self.trace = events(lines)[:length]
         self.cost = (min(len(self.trace), LONG), *weight(behaviour))
+
+    def is_blamed(self, plan):
+        return plan.report("meaning", self.behaviour, bounds=BOUNDS["fault"])[-1].startswith("stop blamed")
 
 
 def entries_of(behaviour):

@@ -15,7 +15,7 @@ WORDS = {"result": "bt_result", "argument": "bt_0", "round": "bt_round"}
 TYPES = {"int": "int", "unsigned": "unsigned int", "void": "void"}
 MOST, LEAST = 2147483647, -2147483648
 NOTHING = [[], 0, None]
-MOST_TOLD = 4
+MOST_TOLD = 6
 
 
 class Bad(Exception):
@@ -166,7 +166,7 @@ def replayed(trace, attacked, main, number):
 
 
 def said(trace, attacked):
-    """What the attacked sections did last in a trace, in words, each with the number of events before it."""
+    """What the attacked sections did last in a trace, in lines, each with the number of events before it."""
     opened, told = [], []
     for number, words in enumerate(trace):
         kind, who = words[:2]
@@ -183,4 +183,4 @@ def said(trace, attacked):
             told.append((f"{who} {text}", times + 1, f"after {number} event{'' if number == 1 else 's'}"))
     shown = [f"{text} {f'{times} times, the last ' if times > 1 else ''}{after}" for text, times, after in told]
     more = ["..."] if len(shown) > MOST_TOLD else []
-    return "when " + ", ".join(more + shown[-MOST_TOLD:]) if shown else "before they do anything"
+    return more + shown[-MOST_TOLD:] or ["before what is attacked does anything"]
