@@ -105,7 +105,10 @@ class Search:
                     yield changed
         for function, (_, _, types) in face.imports.items():
             if types or function != "input":
-                yield self.with_call(base, name, [function, [value] * len(types), 1])
+                call = [function, [value] * len(types), 1]
+                yield self.with_call(base, name, call)
+                if value in CORE:
+                    yield from self.with_calls(base, name, call)
 
     def with_call(self, base, name, call):
         """A recorded behaviour with one more call, at the end of the first entry."""
@@ -115,6 +118,13 @@ class Search:
         entry = part["entries"][0] if part["entries"] else part["rest"].setdefault(function, copy.deepcopy(NOTHING))
         entry[0].append(call)
         return changed
+
+    def with_calls(self, base, name, call):
+        """Behaviours that do this call each time that an export is called."""
+        for function in self.faces[name].exports:
+            changed = self.without_entries(base)
+            changed["parts"][name]["rest"].setdefault(function, copy.deepcopy(NOTHING))[0].append(call)
+            yield changed
 
     def without_entries(self, base):
         """A behaviour that returns the value that each function returned last, and does nothing."""
