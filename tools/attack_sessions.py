@@ -19,7 +19,7 @@ from sections import TOP, commands, count, program
 PAGE = "docs/ATTACK.md"
 CHECKED = re.compile(r"^secomp: (this program has run-time checks|building ).*\n", re.M)
 
-# A program of examples/attacked, which section is attacked, and the fault that must be found.
+# A program of examples/attacked, which section is attacked, and what must be found.
 WEAK = [
     ("index", "Reader", "fault Main OutOfBounds examples/attacked/index.c:14: "),
     ("sum", "Counter", "fault Till Overflow examples/attacked/sum.c:16: "),
@@ -31,6 +31,7 @@ WEAK = [
     ("steps", "Main", "fault Desk OutOfBounds examples/attacked/steps.c:52: "),
     ("divide", "Host", "fault Shop ZeroDivisor examples/attacked/divide.c:15: "),
     ("full", "Main", "fault Stack OutOfBounds examples/attacked/full.c:28: "),
+    ("deep", "Guest", "trap Main owner"),
 ]
 STORE, KEY = "examples/store.c", "examples/policies/key.policy"
 # Words, and what standard error must say; the status must be 2.
