@@ -1,0 +1,31 @@
+// Till adds up what Counter says it has counted, three times.
+// The weakness: nothing keeps the sum from an overflow.
+#pragma compartment Till
+#pragma import Counter counted
+#pragma import Env output
+int counted(int drawer);
+void output(int v);
+
+int main(void) {
+  int drawer;
+  int coins;
+  int sum = 0;
+  for (drawer = 0; drawer < 3; drawer++) {
+    coins = counted(drawer);
+    if (coins > 0) {
+      sum = sum + coins;
+    }
+  }
+  output(sum);
+  return 0;
+}
+#pragma compartment Counter
+#pragma export counted
+#pragma import Env input
+int input(void);
+
+int counted(int drawer) {
+  int coins;
+  coins = input();
+  return coins & 1023;
+}
