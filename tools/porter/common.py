@@ -1,0 +1,42 @@
+"""What the modules of the porter share: the refusal, and the names that the target language reserves."""
+
+RESERVED = set("""auto break case char const continue default do double else enum extern float for goto if inline int
+long register restrict return short signed sizeof static struct switch typedef union unsigned void volatile while
+_Alignas _Alignof _Atomic _Bool _Complex _Generic _Imaginary _Noreturn _Static_assert _Thread_local malloc free
+""".split())
+MOST_NAME = 63
+MOST_PARAMETERS = 8
+
+
+class Refused(Exception):
+    """A construct that the porter does not translate, with its place in the user's file."""
+
+    def __init__(self, coord, what):
+        super().__init__(what)
+        self.coord, self.what = coord, what
+
+    def message(self):
+        file = getattr(self.coord, "file", None) or "?"
+        return f"{file}:{getattr(self.coord, 'line', None) or 0}: refused: {self.what}"
+
+
+class Names:
+    """Hands out names of the target language that are used nowhere else in one section."""
+
+    def __init__(self, taken=()):
+        self.taken = set(RESERVED) | set(taken)
+
+    def fresh(self, wanted, also=()):
+        wanted = wanted[:MOST_NAME - 6]
+        if wanted.startswith("bt_"):
+            wanted = "p_" + wanted
+        name, number = wanted, 1
+        while name in self.taken or name in also:
+            number += 1
+            name = f"{wanted}_{number}"
+        return name
+
+    def take(self, wanted):
+        name = self.fresh(wanted)
+        self.taken.add(name)
+        return name
