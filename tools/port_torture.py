@@ -54,14 +54,15 @@ def main():
     parser = argparse.ArgumentParser(description=__doc__, formatter_class=argparse.RawDescriptionHelpFormatter)
     parser.add_argument("folder")
     parser.add_argument("--secomp")
-    parser.add_argument("--only", default="")
+    parser.add_argument("--only", default="", metavar="WORD", help="programs whose name has this word")
+    parser.add_argument("--every", type=int, default=1, metavar="N", help="each Nth program")
     found = parser.parse_args()
     os.nice(15)
     sys.setrecursionlimit(20000)
     secomp = found.secomp or sections.program()
     counts, reasons = collections.Counter(), collections.Counter()
-    for name in sorted(os.listdir(found.folder)):
-        if name.endswith(".c") and found.only in name:
+    for at, name in enumerate(sorted(os.listdir(found.folder))):
+        if name.endswith(".c") and found.only in name and at % found.every == 0:
             kind, what, coord = outcome(secomp, os.path.join(found.folder, name))
             counts[kind] += 1
             line = getattr(coord, "line", None)

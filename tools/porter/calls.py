@@ -92,18 +92,21 @@ class Calls:
         call = f"{target}({', '.join(texts)})"
         if isinstance(result, Void) or result.is_struct or not wanted:
             self.emit(f"{call};")
+            self.after_call(entity)
             if result.is_struct:
                 return place
             return Value("0", ATOM, result)
         if result.is_wide:
             low = self.temporary("unsigned int")
             self.emit(f"{low.text} = {call};")
+            self.after_call(entity)
             high = self.save(Value(self.unit.high_result(), ATOM, UNSIGNED, "u"), "unsigned int")
             return pair(low, high, result)
         made = self.temporary_of(result)
         if entity is not None and self.unit.is_import(entity):
             made.span = None
         self.emit(f"{made.text} = {call};")
+        self.after_call(entity)
         if entity is not None and self.unit.is_import(entity) and result.is_integer and result.size < 4:
             return self.convert_integer(Value(made.text, ATOM, INT, "s"), result)
         return made
@@ -156,7 +159,29 @@ class Calls:
         return Value("0", ATOM, self.unit.void)
 
     def call_exit(self, node, arguments, wanted):
-        raise Refused(node.coord, "exit, other than as the last statement of main: return from main in its place")
+        """Each function that may come to exit returns at once after a call that did."""
+        value = self.convert(self.word(arguments[0]), INT, node.coord)
+        if self.is_main():
+            self.emit(f"return {value.text};")
+        else:
+            self.unit.exits(self.function, node.coord)
+            status, exiting = self.unit.exit_variables()
+            self.emit(f"{status} = {value.text};")
+            self.emit(f"{exiting} = 1;")
+            self.emit(self.empty_return())
+        return Value("0", ATOM, self.unit.void)
+
+    def empty_return(self):
+        if self.is_main():
+            return f"return {self.unit.exit_variables()[0]};"
+        result = known(self.function.type.result)
+        return "return;" if isinstance(result, Void) or result.is_struct else "return 0;"
+
+    def after_call(self, entity):
+        """Where a called function may have come to exit, so does this one."""
+        if self.function is not None and self.unit.may_exit(self.function, entity):
+            exiting = self.unit.exit_variables()[1]
+            self.lines.append(("if", exiting, [self.line(self.empty_return())], [], self.coord))
 
     def call_malloc(self, node, arguments, wanted):
         return self.allocated(node, arguments[0], None)

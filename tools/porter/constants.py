@@ -21,7 +21,7 @@ def bytes_of(text, coord):
                 raise Refused(coord, f"the escape \\{part.group(3)}")
             found.append(ESCAPES[part.group(3)])
         else:
-            found += part.group(4).encode("utf-8")
+            found.append(ord(part.group(4)))
     return found
 
 

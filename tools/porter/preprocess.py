@@ -59,7 +59,7 @@ def preprocessed(path, folders, defines):
         if parts:
             raise Refused(Place(parts.group(1), int(parts.group(2))), f"the preprocessor says: {parts.group(3)}")
         raise Refused(Place(path, 0), f"the preprocessor says: {fault}")
-    return ran.stdout.decode(errors="surrogateescape")
+    return ran.stdout.decode("latin-1")
 
 
 def attribute_names(text):
@@ -72,9 +72,34 @@ def attribute_names(text):
     return names
 
 
+class Context:
+    """Whether a declaration is one of objects, where an alignment changes nothing that a program can see."""
+
+    def __init__(self):
+        self.structs, self.words = [], []
+
+    def see(self, word):
+        for mark in word if not word[0].isalnum() and word[0] not in "_\"'" else (word,):
+            if mark == "{":
+                self.structs.append(bool({"struct", "union"} & set(self.words)) and
+                                    not {"(", "="} & set(self.words))
+                self.words = []
+            elif mark == "}":
+                if self.structs:
+                    self.words = ["}"] if self.structs.pop() else []
+            elif mark == ";":
+                self.words = []
+            elif not mark.isspace():
+                self.words.append(mark)
+
+    def is_object(self):
+        last = self.words[-1] if self.words else ""
+        return not any(self.structs) and "typedef" not in self.words and last not in ("struct", "union", "}")
+
+
 def without_attributes(text, path):
     """The text with attributes blanked; one that may change what the program means is refused."""
-    words, at, place, kept = WORD.findall(text), 0, Place(path, 1), []
+    words, at, place, kept, context = WORD.findall(text), 0, Place(path, 1), [], Context()
     while at < len(words):
         word = words[at]
         at += 1
@@ -89,7 +114,7 @@ def without_attributes(text, path):
                 if depth == 0 and words[at - 1] == ")":
                     break
             for name in attribute_names("".join(taken)):
-                if name not in HARMLESS:
+                if name not in HARMLESS and not (name == "aligned" and context.is_object()):
                     raise Refused(first, f"attribute {name}")
             word = "\n" * taken.count("\n")
             place = Place(place.file, place.line + len(word))
@@ -103,6 +128,8 @@ def without_attributes(text, path):
             marker = MARKER.match(rest.lstrip())
             if marker:
                 place = Place(marker.group(2), int(marker.group(1)) - 1)
+        else:
+            context.see(word)
         kept.append(word)
     return "".join(kept)
 
@@ -110,7 +137,6 @@ def without_attributes(text, path):
 def tree_of(path, folders, defines):
     """pycparser's tree of a file. What it can't parse is refused at its line."""
     text = without_attributes(preprocessed(path, folders, defines), path)
-    text = "".join(f"{line}\n" for line in text.split("\n")).encode("utf-8", "replace").decode("utf-8", "replace")
     text = "\n".join("" if line.lstrip().startswith("#pragma") and "compartment" not in line else line
                      for line in text.split("\n"))
     try:

@@ -68,6 +68,7 @@ class Program:
                 pass
             for unit in self.units:
                 unit.group()
+                unit.close_exits()
 
     def work(self, unit):
         """Translates what waits in a section; answers whether something did."""

@@ -77,15 +77,6 @@ class Statements:
         yes, no = self.body(node.iftrue), self.body(node.iffalse)
         self.lines.append(("if", condition.text, yes, no, self.coord))
 
-    def is_exit(self, node):
-        return isinstance(node, c_ast.FuncCall) and isinstance(node.name, c_ast.ID) and node.name.name == "exit"
-
-    def do_FuncCall(self, node):
-        if self.is_exit(node) and self.function.name == "main" and self.unit.defines_no("exit"):
-            self.returned(node.args.exprs[0], node.coord)
-        else:
-            self.effect(node)
-
     def do_Return(self, node):
         self.returned(node.expr, node.coord)
 

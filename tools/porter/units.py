@@ -35,6 +35,7 @@ class Unit(Helpers, Layout, Variables, Sections):
         self.trees, self.types, self.structs_at, self.tagged, self.copied = {}, {}, {}, {}, set()
         self.order, self.copied_now, self.exports_wanted = [], set(), {}
         self.loaded = list(paths)
+        self.direct_exits, self.calls_seen, self.exiting, self.exit_names = set(), {}, set(), None
 
     def begin(self, is_last):
         """Forgets what a pass wrote, and keeps what it found out."""
@@ -43,7 +44,7 @@ class Unit(Helpers, Layout, Variables, Sections):
         self.functions, self.variables, self.statics, self.scopes = {}, {}, {}, {}
         self.waiting, self.written, self.used, self.strings, self.tables = [], {}, {}, {}, {}
         self.generated, self.dispatchers, self.numbered, self.imports, self.exports = {}, {}, [], {}, {}
-        self.passings, self.static_locals = {}, {}
+        self.passings, self.static_locals, self.exit_names = {}, {}, None
         self.begin_layout()
         for path in self.loaded:
             self.read(path)
@@ -219,6 +220,39 @@ class Unit(Helpers, Layout, Variables, Sections):
 
     def is_exported(self, entity):
         return self.functions.get(entity.name) is entity and entity.name in self.exports
+
+    # exit
+
+    def exits(self, function, coord):
+        self.direct_exits.add((function.file, function.name))
+        if self.is_exported(function):
+            raise Refused(coord, "exit in a function that another section calls")
+
+    def exit_variables(self):
+        if self.exit_names is None:
+            self.exit_names = self.names.take("exit_status"), self.names.take("exiting")
+        return self.exit_names
+
+    def may_exit(self, caller, entity):
+        """Notes the call; says whether the first pass found that exit may be reached by it."""
+        if entity is not None and entity.node is None and entity.name in self.functions:
+            entity = self.functions[entity.name]
+        callee = (entity.file, entity.name) if entity is not None else None
+        self.calls_seen.setdefault((caller.file, caller.name), set()).add(callee)
+        return callee in self.exiting
+
+    def close_exits(self):
+        """What may reach exit: None stands for calls by number."""
+        reaching = set(self.direct_exits)
+        by_number = {(it.file, it.name) for it in self.numbered}
+        while True:
+            more = {caller for caller, callees in self.calls_seen.items() if callees & reaching}
+            if by_number & (reaching | more):
+                more.add(None)
+            if more <= reaching:
+                break
+            reaching |= more
+        self.exiting = reaching
 
     def parameter_names(self, entity):
         args = entity.node.decl.type.args if hasattr(entity.node.decl.type, "args") else None

@@ -101,6 +101,7 @@ class Variables:
             lines.append(("line", self.table_text(name, values), None))
         for spelling, name in self.passings.values():
             lines.append(("line", f"{spelling} {name};".replace("* ", "*"), None))
+        lines += [("line", f"int {name};", None) for name in self.exit_names or ()]
         return lines
 
     def declarator_of(self, entity):
