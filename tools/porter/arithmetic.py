@@ -176,7 +176,7 @@ class Arithmetic:
         if kind.is_struct:
             return place
         if isinstance(kind, Function):
-            return place
+            return self.function_number(place, self.coord)
         if kind.is_wide:
             made = Value("?", ATOM, kind)
             made.low = Value(f"{place.at(POSTFIX)}.low", POSTFIX, UNSIGNED, "u")
