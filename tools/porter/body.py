@@ -28,7 +28,7 @@ class Body(Expressions, Effects, Calls, Statements, Jumps, Initial, Declarations
     def __init__(self, unit, scope, function=None):
         self.unit, self.scope, self.function = unit, scope, function
         self.lines, self.locals, self.free, self.used, self.targets = [], [], {}, [], []
-        self.names = Names(unit.names.taken)
+        self.names = Names((), unit.names)
         self.coord, self.machine, self.result_name, self.prologue = None, None, None, []
         self.taken = addressed(function.node) if function is not None else set()
         self.parameters = []

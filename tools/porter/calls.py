@@ -237,6 +237,25 @@ class Calls:
         self.emit(f"free({value.text});")
         return Value("0", ATOM, self.unit.void)
 
+    def call_qsort(self, node, arguments, wanted):
+        """A function of the section for each type of elements, which sorts them in a heap."""
+        base, count, size, compare = self.ordered(*arguments)
+        kind = known(self.elements(base, node.coord))
+        pointer = known(compare.type)
+        order = known(pointer.to) if is_function_pointer(pointer) else None
+        if order is None or order.parameters is None or len(order.parameters) != 2:
+            raise Refused(node.coord, "qsort without a function of two parameters")
+        for it in order.parameters:
+            if not known(it).is_pointer or not self.unit.alike(known(it).to, kind):
+                raise Refused(node.coord, f"qsort of {kind!r} by {known(it)!r}")
+        kind = known(kind)
+        if not isinstance(kind, Void) and size.const != size_of(kind, node.coord):
+            raise Refused(node.coord, f"qsort of {kind!r} by another size")
+        target = self.unit.dispatcher(order, [], node.coord)
+        self.emit(f"{self.unit.sorter(kind, target)}({base.text}, {count.text}, {compare.text});")
+        self.after_call(None)
+        return Value("0", ATOM, self.unit.void)
+
     def elements(self, value, coord):
         kind = known(value.type)
         if not kind.is_pointer or is_function_pointer(kind):

@@ -23,15 +23,18 @@ class Refused(Exception):
 class Names:
     """Hands out names of the target language that are used nowhere else in one section."""
 
-    def __init__(self, taken=()):
-        self.taken = set(RESERVED) | set(taken)
+    def __init__(self, taken=(), section=None):
+        self.taken, self.section, self.inner = set(RESERVED) | set(taken), section, set()
 
-    def fresh(self, wanted, also=()):
+    def is_taken(self, name):
+        return name in self.taken or name in self.inner or self.section is not None and name in self.section.taken
+
+    def fresh(self, wanted):
         wanted = wanted[:MOST_NAME - 6]
         if wanted.startswith("bt_"):
             wanted = "p_" + wanted
         name, number = wanted, 1
-        while name in self.taken or name in also:
+        while self.is_taken(name):
             number += 1
             name = f"{wanted}_{number}"
         return name
@@ -39,4 +42,6 @@ class Names:
     def take(self, wanted):
         name = self.fresh(wanted)
         self.taken.add(name)
+        if self.section is not None:
+            self.section.inner.add(name)
         return name

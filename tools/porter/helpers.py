@@ -124,6 +124,53 @@ class Helpers:
 }}""".replace("* *", "**")
         return self.generate(("fill", spelling, id(kind) if kind.is_struct else 0), f"fill_{self.word_of(kind)}s", text)
 
+    def sorter(self, kind, order):
+        """qsort of elements, as a heap."""
+        kind = known(kind)
+        spelling = self.spelled(kind)
+
+        def text(name):
+            swap = [*self.assigned(kind, "held", "at[child]"), *self.assigned(kind, "at[child]", "at[root]"),
+                    *self.assigned(kind, "at[root]", "held")]
+            inside, outside = ("\n".join(f"{' ' * depth}{it}" for it in swap) for depth in (4, 4))
+            return f"""void {name}_sift({spelling} *at, unsigned int root, unsigned int count, int order) {{
+  unsigned int child;
+  int compared;
+  {spelling} held;
+  while (root * 2u + 1u < count) {{
+    child = root * 2u + 1u;
+    if (child + 1u < count) {{
+      compared = {order}(order, at + child, at + (child + 1u));
+      if (compared < 0) {{
+        child = child + 1u;
+      }}
+    }}
+    compared = {order}(order, at + root, at + child);
+    if (compared >= 0) {{
+      return;
+    }}
+{inside}
+    root = child;
+  }}
+}}
+void {name}({spelling} *at, unsigned int count, int order) {{
+  unsigned int root;
+  unsigned int child;
+  {spelling} held;
+  for (root = count / 2u; root > 0u;) {{
+    root = root - 1u;
+    {name}_sift(at, root, count, order);
+  }}
+  for (child = count; child > 1u;) {{
+    child = child - 1u;
+    root = 0u;
+{outside}
+    {name}_sift(at, 0u, child, order);
+  }}
+}}""".replace("* *", "**")
+        return self.generate(("sort", spelling, id(kind) if kind.is_struct else 0, order),
+                             f"sort_{self.word_of(kind)}s", text)
+
     # Calls by number
 
     def signature(self, result, parameters):

@@ -25,7 +25,8 @@ IN_LIBRARY = {
               "port_remainder_signed port_high",
 }
 FILE_OF = {name: file for file, names in IN_LIBRARY.items() for name in names.split()}
-BUILTINS = {"abort", "exit", "malloc", "calloc", "free", "memcpy", "memmove", "memset", "memcmp", "memchr"}
+BUILTINS = {"abort", "exit", "malloc", "calloc", "free", "memcpy", "memmove", "memset", "memcmp", "memchr",
+            "qsort"}
 
 
 class Unit(Helpers, Layout, Variables, Sections):
@@ -48,6 +49,20 @@ class Unit(Helpers, Layout, Variables, Sections):
         self.begin_layout()
         for path in self.loaded:
             self.read(path)
+        self.name_all()
+
+    def name_all(self):
+        """Names first what other sections may call, then the rest."""
+        for entity in self.functions.values():
+            if entity.node is None:
+                self.names.taken.add(entity.name)
+        for home in [self.functions, *(home for home in self.statics.values())]:
+            for entity in home.values():
+                if entity.target is None and (entity.kind == "variable" or entity.node is not None):
+                    entity.target = self.names.take(entity.name)
+        for entity in self.variables.values():
+            if entity.target is None:
+                entity.target = self.names.take(entity.name)
 
     def read(self, path):
         """The declarations of a file."""
@@ -109,7 +124,7 @@ class Unit(Helpers, Layout, Variables, Sections):
         entity = statics.get(name) if name in statics else None
         if entity is None and (is_static or self.is_static_here(name)):
             entity = statics[name] = Entity("function", name, kind, file=self.file)
-            entity.target = self.names.take(name)
+            entity.target = None
         if entity is None:
             entity = self.functions.get(name)
         if entity is None:
@@ -199,6 +214,7 @@ class Unit(Helpers, Layout, Variables, Sections):
             self.loaded.append(path)
             before = self.file
             self.read(path)
+            self.name_all()
             self.file = before
 
     def library_function(self, name):
@@ -334,7 +350,8 @@ class Unit(Helpers, Layout, Variables, Sections):
         base = base_of(kind)[0]
         if base.is_struct:
             self.wants_complete(base, coord)
-        entity.target = self.names.take(entity.name)
+        if entity.target is None:
+            entity.target = self.names.take(entity.name)
         self.used[id(entity)] = entity
 
     def string(self, values):
