@@ -1,7 +1,7 @@
 """Arithmetic on translated values: conversions, operators on one word, conditions. wide.py has long long."""
 from .common import Refused
-from .ctypes import (BOOL, INT, UNSIGNED, Void, common, is_function_pointer, known, promoted, target_of_value, unify,
-                     Function, base_of)
+from .ctypes import (BOOL, INT, UNSIGNED, Function, Void, base_of, common, is_function_pointer, known, promoted, size_of,
+                     unify)
 from .values import (AND, ATOM, BIT_AND, BIT_OR, BIT_XOR, EQUAL, LESS, OR, POSTFIX, PREFIX, PRODUCT, SHIFT, SUM, Place,
                      Value, binary, number, prefix)
 
@@ -299,9 +299,10 @@ class Arithmetic:
             raise Refused(coord, f"{sign} on a pointer")
         base, count = base_of(kind.to)
         if isinstance(base, Void):
-            if base.bound is None and base is not self.unit.void:
-                unify(base, self.unit.char)
-            raise Refused(coord, "arithmetic on a void pointer")
+            if base is self.unit.void or self.unit.is_last and not unify(base, self.unit.char):
+                raise Refused(coord, "arithmetic on a void pointer")
+        elif isinstance(kind.to, Void) and size_of(base, coord) != 1:
+            raise Refused(coord, f"arithmetic on a void pointer to {base!r}")
         if known(other.type).is_pointer:
             if sign != "-" or not unify(kind.to, known(other.type).to):
                 raise Refused(coord, f"{sign} on pointers to different types")

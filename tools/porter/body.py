@@ -160,6 +160,8 @@ class Body(Expressions, Effects, Calls, Statements, Jumps, Initial, Declarations
         entity = self.function
         node = entity.node
         self.coord = node.coord
+        if self.unit.is_exported(entity) and (entity.file, entity.name) in self.unit.exiting:
+            raise Refused(node.coord, f"{entity.name} comes to exit, and another section calls it")
         self.open_scope()
         self.take_parameters(entity)
         self.prologue = self.lines

@@ -191,7 +191,8 @@ class Calls:
         made = self.allocated(node, product, None)
         kind = known(made.made)
         helper = self.unit.filler(kind, node.coord)
-        self.lines.append(("if", f"{made.text} != 0", [self.line(f"{helper}({made.text}, {self.counted});")], [],
+        fill = ", 0" if isinstance(kind, Void) or kind.is_integer and not kind.is_wide else ""
+        self.lines.append(("if", f"{made.text} != 0", [self.line(f"{helper}({made.text}, {self.counted}{fill});")], [],
                            self.coord))
         return made
 

@@ -190,8 +190,6 @@ class Declarations:
             if it.name is None and width is None:
                 raise Refused(it.coord, "a structure without a name inside another")
             members.append(Member(it.name, kind, width))
-        if not [it for it in members if it.name]:
-            raise Refused(node.coord, "a structure without members")
         struct.members = members
         self.unit.defined(struct)
 

@@ -196,17 +196,17 @@ void {name}({spelling} *at, unsigned int count, int order) {{
         spellings = [it for kind in parameters for it in self.passed(kind)]
         spelling = "void" if isinstance(result, Void) else "unsigned int" if result.is_wide else \
             target_of_value(result)
-        head = ", ".join(["int which", *(f"{of} a{at}".replace("* ", "*") for at, of in enumerate(spellings))])
-        texts = ", ".join(f"a{at}" for at in range(len(spellings)))
+        head = ", ".join(["int port_which", *(f"{of} port_a{at}".replace("* ", "*") for at, of in enumerate(spellings))])
+        texts = ", ".join(f"port_a{at}" for at in range(len(spellings)))
         lines = []
         for number_, entity in enumerate(self.numbered, 1):
             if entity.type.parameters is None or self.signature(entity.type.result, entity.type.parameters) != key:
                 continue
             call = f"{self.called(entity, None)[0]}({texts});"
             if isinstance(result, Void):
-                lines += [f"  if (which == {number_}) {{", f"    {call}", "    return;", "  }"]
+                lines += [f"  if (port_which == {number_}) {{", f"    {call}", "    return;", "  }"]
             else:
-                lines += [f"  if (which == {number_}) {{", f"    return {call}", "  }"]
+                lines += [f"  if (port_which == {number_}) {{", f"    return {call}", "  }"]
         end = "" if isinstance(result, Void) else "\n  return 0;"
         inside = "\n".join([*lines, f"  {self.helper_abort()}();"])
         return f"{spelling} {name}({head}) {{\n{inside}{end}\n}}".replace("* call", "*call")

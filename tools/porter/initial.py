@@ -139,7 +139,12 @@ class Fill:
                 first = at + 1
             base, kind = base + parts[at][0], parts[at][1]
             parts = self.parts(kind) if depth + 1 < len(node.name) else []
-        self.whole(kind, node.expr, base)
+        kind = known(kind)
+        if (kind.is_array or kind.is_struct) and not isinstance(node.expr, c_ast.InitList) and \
+                not is_string(node.expr, kind) and not (kind.is_struct and self.is_struct_value(node.expr, kind)):
+            self.items(kind, [node.expr], base, False)
+        else:
+            self.whole(kind, node.expr, base)
         return first
 
 

@@ -84,6 +84,8 @@ class Layout:
                 for member in struct.members:
                     if member.name:
                         lines.append("  " + self.declarator(member.type, member.target) + ";")
+            if not any(member.name for struct in parts for member in struct.members):
+                lines.append("  int nothing;")
             lines.append("};")
         return lines
 

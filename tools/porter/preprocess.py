@@ -32,6 +32,16 @@ DEFINED = {
     "__builtin_strrchr": "strrchr", "__builtin_malloc": "malloc", "__builtin_free": "free",
     "__builtin_calloc": "calloc", "__builtin_abs": "abs", "__builtin_labs": "labs",
     "__builtin_offsetof(t,m)": "offsetof(t,m)", "__builtin_expect(e,c)": "(e)",
+    "__builtin_ffs": "ffs", "__builtin_ffsl": "ffs", "__builtin_clz": "port_clz", "__builtin_ctz": "port_ctz",
+    "__builtin_clzl": "port_clz", "__builtin_ctzl": "port_ctz", "__builtin_popcount": "port_popcount",
+    "__builtin_popcountl": "port_popcount", "__builtin_parity": "port_parity", "__builtin_parityl": "port_parity",
+    "__builtin_bswap32": "port_bswap32", "__builtin_bswap16": "port_bswap16", "__builtin_strstr": "strstr",
+    "__builtin_isdigit": "isdigit", "__builtin_toupper": "toupper", "__builtin_tolower": "tolower",
+    "__builtin_memchr": "memchr", "__builtin_strncat": "strncat", "__builtin_strspn": "strspn",
+    "__builtin_strcspn": "strcspn", "__builtin_strpbrk": "strpbrk", "__builtin_prefetch(...)": "((void)0)",
+    "__builtin_putchar": "putchar", "__builtin_puts": "puts", "__builtin_llabs": "llabs",
+    "__builtin_clzll": "port_clzll", "__builtin_ctzll": "port_ctzll", "__builtin_popcountll": "port_popcountll",
+    "__builtin_bswap64": "port_bswap64", "__builtin_ffsll": "port_ffsll", "__builtin_parityll": "port_parityll",
     "__builtin_trap": "abort", "__builtin_unreachable": "abort", "__builtin_assume_aligned(p,...)": "(p)",
 }
 HARMLESS = set("""noinline noclone unused used const pure noreturn always_inline noipa cold hot nothrow leaf malloc
@@ -70,6 +80,23 @@ def attribute_names(text):
         if depth == 2 and re.match(r"[A-Za-z_]", word):
             names.append(word.strip("_"))
     return names
+
+
+def empty_assembler(words, at):
+    """How many words an asm statement takes that does nothing: its text is empty, and each output is its own input."""
+    taken, depth = [], 0
+    while at < len(words) and len(taken) < 400:
+        taken.append(words[at])
+        depth += (words[at] == "(") - (words[at] == ")")
+        at += 1
+        if depth == 0 and taken[-1] == ")":
+            break
+    text = re.sub(r"\b(volatile|__volatile__|__volatile)\b", "", "".join(taken))
+    parts = re.fullmatch(r'\s*\(\s*((?:""\s*)+)(:(?P<out>[^:]*)(:.*)?)?\)', text, re.S)
+    if not parts or "++" in text or "--" in text:
+        return 0
+    outputs = re.findall(r'"([^"]*)"', parts.group("out") or "")
+    return len(taken) if all(it.startswith("+") for it in outputs) else 0
 
 
 class Context:
@@ -119,7 +146,12 @@ def without_attributes(text, path):
             word = "\n" * taken.count("\n")
             place = Place(place.file, place.line + len(word))
         elif word in ("asm", "__asm__", "__asm"):
-            raise Refused(place, "asm")
+            length = empty_assembler(words, at)
+            if not length:
+                raise Refused(place, "asm")
+            word = "\n" * "".join(words[at:at + length]).count("\n")
+            at += length
+            place = Place(place.file, place.line + len(word))
         elif word in ("__typeof__", "typeof", "__typeof", "__label__", "__alignof__", "__alignof", "_Alignas",
                       "_Alignof", "_Generic", "_Thread_local", "__thread", "_Atomic"):
             raise Refused(place, word)

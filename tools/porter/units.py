@@ -20,6 +20,8 @@ IN_LIBRARY = {
     "numbers.c": "abs labs rand srand atoi",
     "characters.c": "isdigit islower isupper isalpha isalnum isblank isspace iscntrl isgraph isprint ispunct isxdigit "
                     "tolower toupper",
+    "bits.c": "ffs port_clz port_ctz port_popcount port_parity port_bswap32 port_bswap16 port_clzll port_ctzll "
+              "port_popcountll port_bswap64 port_ffsll port_parityll llabs",
     "streams.c": "getchar putchar puts",
     "wide.c": "port_left port_right port_right_signed port_multiply port_divide port_remainder port_divide_signed "
               "port_remainder_signed port_high",
@@ -41,7 +43,7 @@ class Unit(Helpers, Layout, Variables, Sections):
     def begin(self, is_last):
         """Forgets what a pass wrote, and keeps what it found out."""
         self.is_last, self.copied = is_last, self.copied | self.copied_now
-        self.names = Names({"input", "output", "main", "i", "to", "from", "count", "value", "which", "low", "high"})
+        self.names = Names({"input", "output", "main"})
         self.functions, self.variables, self.statics, self.scopes = {}, {}, {}, {}
         self.waiting, self.written, self.used, self.strings, self.tables = [], {}, {}, {}, {}
         self.generated, self.dispatchers, self.numbered, self.imports, self.exports = {}, {}, [], {}, {}
@@ -165,6 +167,8 @@ class Unit(Helpers, Layout, Variables, Sections):
 
     def implicit(self, name):
         """A function that is called without a declaration."""
+        if name not in self.functions and FILE_OF.get(name) == "bits.c":
+            self.load("bits.c")
         if name not in self.functions:
             entity = self.functions[name] = Entity("function", name, Function(INT, None), file=self.file)
             entity.target = None

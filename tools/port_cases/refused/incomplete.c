@@ -1,4 +1,4 @@
-/* refused at line 4: a member of */
+/* refused at line 4: no known member x */
 struct hidden;
-extern struct hidden *h;
+static struct hidden *h;
 int main(void) { return h->x; }
