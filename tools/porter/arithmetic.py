@@ -2,8 +2,8 @@
 from .common import Refused
 from .ctypes import (BOOL, INT, UNSIGNED, Function, Void, base_of, common, is_function_pointer, known, promoted, size_of,
                      unify)
-from .values import (AND, ATOM, BIT_AND, BIT_OR, BIT_XOR, EQUAL, LESS, OR, POSTFIX, PREFIX, PRODUCT, SHIFT, SUM, Place,
-                     Value, binary, number, prefix)
+from .values import (ATOM, BIT_AND, BIT_OR, BIT_XOR, EQUAL, LESS, POSTFIX, PREFIX, PRODUCT, SHIFT, SUM, Place, Value,
+                     binary, number)
 
 LEVELS = {"|": BIT_OR, "^": BIT_XOR, "&": BIT_AND, "==": EQUAL, "!=": EQUAL, "<": LESS, ">": LESS, "<=": LESS,
           ">=": LESS, "<<": SHIFT, ">>": SHIFT, "+": SUM, "-": SUM, "*": PRODUCT, "/": PRODUCT, "%": PRODUCT}
