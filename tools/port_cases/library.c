@@ -34,6 +34,8 @@ int main(void) {
   qsort(numbers, 6, sizeof(int), compare);
   for (i = 0; i < 6; i++)
     output(numbers[i]);
+  memcpy(numbers, numbers + 3, i + 1);
+  output(numbers[0] + numbers[1]);
   more = calloc(3, sizeof(int));
   assert(more);
   output(more[2]);

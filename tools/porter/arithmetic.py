@@ -101,7 +101,9 @@ class Arithmetic:
         if not source.is_pointer:
             raise Refused(coord, f"a conversion from {source!r} to {kind!r}")
         if value.made and isinstance(known(source.to), Void):
-            value.made.bound = value.made.bound or base_of(kind.to)[0]
+            base = base_of(kind.to)[0]
+            if value.made.bound is None and not isinstance(base, Void):
+                value.made.bind(base)
         if not unify(source.to, kind.to):
             raise Refused(coord, f"a conversion from {source!r} to {kind!r}: their cells differ")
         made = self.copy_of(value)

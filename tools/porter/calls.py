@@ -273,6 +273,10 @@ class Calls:
         if kind.is_struct:
             self.unit.wants_complete(kind, node.coord)
         to = to if to.is_stable() or not wanted else self.save(to)
+        if kind.is_integer and kind.size in (2, 4) and not (length.const is not None and length.const % kind.size == 0) \
+                and not overlapping and not length.low:
+            self.emit(f"{self.unit.byte_mover(kind)}({to.text}, {source.text}, {length.text});")
+            return to
         count = self.count_of(length, kind, node.coord, exact=True)
         self.emit(f"{self.unit.mover(kind, overlapping)}({to.text}, {source.text}, {count.text});")
         return to

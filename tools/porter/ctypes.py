@@ -45,8 +45,14 @@ for _type, _spellings in {
 class Void(Type):
     """`void`. Behind a pointer it stands for one type, which is found by the pointers that are converted to it."""
 
+    found = 0
+
     def __init__(self):
         self.bound = None
+
+    def bind(self, kind):
+        self.bound = kind
+        Void.found += 1
 
     def __repr__(self):
         return repr(self.bound) if self.bound else "void"
@@ -201,7 +207,7 @@ def unify(one, other):
             if base is not this:
                 if is_within(this, base):
                     return False
-                this.bound = base
+                this.bind(base)
             return True
     (one, _), (other, _) = base_of(one), base_of(other)
     if isinstance(one, Void) or isinstance(other, Void):

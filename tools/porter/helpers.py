@@ -100,6 +100,21 @@ class Helpers:
         return self.generate((overlapping, spelling, id(kind) if kind.is_struct else 0),
                              f"{'move' if overlapping else 'copy'}_{self.word_of(kind)}s", text)
 
+    def byte_mover(self, kind):
+        """memcpy of a number of bytes that may end within an element, whose low bytes are copied."""
+        def text(name):
+            return f"""void {name}(int *to, int *from, unsigned int bytes) {{
+  unsigned int count;
+  unsigned int mask;
+  count = bytes / {kind.size}u;
+  {self.mover(kind)}(to, from, count);
+  if (bytes % {kind.size}u != 0u) {{
+    mask = (1u << bytes % {kind.size}u * 8u) - 1u;
+    to[count] = to[count] & ~mask | from[count] & mask;
+  }}
+}}"""
+        return self.generate(("bytes", kind.size), f"copy_bytes_of_{8 * kind.size}_bits", text)
+
     def spelled(self, kind):
         return target_of(kind)
 

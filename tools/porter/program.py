@@ -7,6 +7,7 @@ from .printing import Printer
 from .units import Unit
 
 MOST_SECTIONS = 32
+MOST_PASSES = 4
 
 
 class Program:
@@ -58,17 +59,26 @@ class Program:
         return found[0]
 
     def translate(self):
-        for is_last in (False, True):
-            for unit in self.units:
-                unit.begin(is_last)
-                unit.begun, unit.start_lines = {}, []
-            unit, main = self.main_unit()
-            unit.want(main)
-            while any([self.work(unit) for unit in self.units]):
-                pass
-            for unit in self.units:
-                unit.group()
-                unit.close_exits()
+        self.perform(False)
+        for _ in range(MOST_PASSES):
+            before = Void.found
+            self.perform(True)
+            if Void.found == before:
+                return
+        raise Refused(None, "a void pointer whose type the porter doesn't find")
+
+    def perform(self, is_last):
+        """One pass over all that is reached."""
+        for unit in self.units:
+            unit.begin(is_last)
+            unit.begun, unit.start_lines = {}, []
+        unit, main = self.main_unit()
+        unit.want(main)
+        while any([self.work(unit) for unit in self.units]):
+            pass
+        for unit in self.units:
+            unit.group()
+            unit.close_exits()
 
     def work(self, unit):
         """Translates what waits in a section; answers whether something did."""

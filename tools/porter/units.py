@@ -332,7 +332,7 @@ class Unit(Helpers, Layout, Variables, Sections):
         return entity
 
     def declare_static(self, node, kind, scope):
-        key = str(node.coord), node.name
+        key = self.file, str(node.coord), node.name
         if key not in self.static_locals:
             entity = Entity("variable", node.name, kind, scope=scope, init=node.init, target=None, file=self.file)
             entity.is_defined, entity.coord = True, node.coord

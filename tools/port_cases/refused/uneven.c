@@ -1,4 +1,5 @@
-/* refused at line 4: no whole number */
+/* refused at line 5: no whole number */
 #include <string.h>
-static int a[4], b[4];
-int main(void) { memcpy(a, b, 6); return 0; }
+static struct { int n; } a[4], b[4];
+static int f(void) { return a[0].n; }
+int main(void) { memcpy(a, a + 1, 6); return f() + b[0].n; }
