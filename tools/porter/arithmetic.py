@@ -1,7 +1,7 @@
 """Arithmetic on translated values: conversions, operators on one word, conditions. wide.py has long long."""
 from .common import Refused
-from .ctypes import (BOOL, INT, UNSIGNED, Function, Void, base_of, common, is_function_pointer, known, promoted, size_of,
-                     unify)
+from .ctypes import (BOOL, INT, UNSIGNED, Function, Void, base_of, common, is_function_pointer, known, promoted,
+                     size_of, unify)
 from .values import (ATOM, BIT_AND, BIT_OR, BIT_XOR, EQUAL, LESS, POSTFIX, PREFIX, PRODUCT, SHIFT, SUM, Place, Value,
                      binary, number)
 

@@ -3,15 +3,14 @@ from pycparser import c_ast
 
 from .calls import Calls
 from .common import MOST_PARAMETERS, Names, Refused
-from .ctypes import (INT, UNSIGNED, Array, Function, Pointer, Void, base_of, is_function_pointer, known, size_of,
-                     target_of, target_of_value)
+from .ctypes import Function, Void, base_of, is_function_pointer, known, target_of, target_of_value
 from .declarations import Declarations, Entity, Scope
 from .effects import Effects
 from .expressions import Expressions
 from .initial import Initial
 from .jumps import Jumps
 from .statements import Statements
-from .values import ATOM, Place, Value, number
+from .values import ATOM, Place
 
 
 def addressed(node, found=None):

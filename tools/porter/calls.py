@@ -4,9 +4,9 @@ import re
 from pycparser import c_ast
 
 from .common import MOST_PARAMETERS, Refused
-from .ctypes import (BOOL, CHAR, INT, UNSIGNED, Function, Pointer, Void, base_of, is_function_pointer, known, promoted,
-                     size_of, target_of, target_of_value)
-from .values import ATOM, POSTFIX, PREFIX, PRODUCT, Place, Value, number
+from .ctypes import (CHAR, INT, UNSIGNED, Function, Pointer, Void, base_of, is_function_pointer, known, promoted,
+                     size_of, target_of)
+from .values import ATOM, PRODUCT, Place, Value, number
 from .wide import pair
 
 COPIES = ("memcpy", "memmove")
@@ -273,8 +273,9 @@ class Calls:
         if kind.is_struct:
             self.unit.wants_complete(kind, node.coord)
         to = to if to.is_stable() or not wanted else self.save(to)
-        if kind.is_integer and kind.size in (2, 4) and not (length.const is not None and length.const % kind.size == 0) \
-                and not overlapping and not length.low:
+        is_whole = length.const is not None and length.const % size_of(kind, node.coord) == 0 \
+            if kind.is_integer else True
+        if kind.is_integer and kind.size in (2, 4) and not is_whole and not overlapping and not length.low:
             self.emit(f"{self.unit.byte_mover(kind)}({to.text}, {source.text}, {length.text});")
             return to
         count = self.count_of(length, kind, node.coord, exact=True)

@@ -2,7 +2,7 @@
 from pycparser import c_ast
 
 from .common import Refused
-from .ctypes import (BY_WORDS, INT, UNSIGNED, Array, Function, Member, Pointer, Struct, Void, known, size_of, unify)
+from .ctypes import BY_WORDS, INT, UNSIGNED, Array, Function, Member, Pointer, Struct, Void, known
 from .constants import string_values
 
 FLOATS = {"float", "double", "_Complex"}

@@ -5,8 +5,7 @@ from contextlib import contextmanager
 from pycparser import c_ast
 
 from .common import Refused
-from .ctypes import (INT, UNSIGNED, Function, Void, base_of, is_function_pointer, known, promoted, target_of,
-                     target_of_value)
+from .ctypes import INT, UNSIGNED, Void, is_function_pointer, known, target_of, target_of_value
 from .values import ATOM, POSTFIX, PREFIX, Place, Value, number
 
 

@@ -5,10 +5,10 @@ from pycparser import c_ast
 from .arithmetic import Arithmetic
 from .common import Refused
 from .constants import constant, string_values
-from .ctypes import (CHAR, INT, UNSIGNED, Array, Function, Pointer, Void, base_of, common, is_function_pointer, known,
-                     promoted, size_of, target_of, target_of_value)
-from .values import ATOM, POSTFIX, PREFIX, SUM, Place, Value, number, prefix
-from .wide import Wide, pair
+from .ctypes import (CHAR, INT, UNSIGNED, Array, Function, Pointer, Void, common, is_function_pointer, known,
+                     promoted, size_of)
+from .values import ATOM, POSTFIX, PREFIX, Place, Value, number, prefix
+from .wide import Wide
 
 
 class Expressions(Arithmetic, Wide):

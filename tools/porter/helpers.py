@@ -1,6 +1,5 @@
 """Functions that the porter writes into a section: copies and fills of whole objects, calls by number, the stop."""
-from .common import MOST_PARAMETERS, Refused
-from .ctypes import (UNSIGNED, Void, base_of, is_function_pointer, known, target_of, target_of_value)
+from .ctypes import Void, base_of, known, target_of, target_of_value
 from .values import number
 
 
@@ -211,7 +210,8 @@ void {name}({spelling} *at, unsigned int count, int order) {{
         spellings = [it for kind in parameters for it in self.passed(kind)]
         spelling = "void" if isinstance(result, Void) else "unsigned int" if result.is_wide else \
             target_of_value(result)
-        head = ", ".join(["int port_which", *(f"{of} port_a{at}".replace("* ", "*") for at, of in enumerate(spellings))])
+        given = [f"{of} port_a{at}".replace("* ", "*") for at, of in enumerate(spellings)]
+        head = ", ".join(["int port_which", *given])
         texts = ", ".join(f"port_a{at}" for at in range(len(spellings)))
         lines = []
         for number_, entity in enumerate(self.numbered, 1):

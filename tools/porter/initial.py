@@ -4,7 +4,7 @@ from pycparser import c_ast
 from .common import Refused
 from .constants import string_values
 from .ctypes import base_of, known
-from .values import ATOM, POSTFIX, Place
+from .values import POSTFIX, Place
 
 
 def leaves_of(kind):

@@ -7,9 +7,9 @@ statement, is taken apart into blocks, and a loop performs the block of a state 
 from pycparser import c_ast
 
 from .common import Refused
-from .ctypes import INT, known, promoted
+from .ctypes import promoted
 from .statements import Target
-from .values import ATOM, EQUAL, Place, Value, binary, number
+from .values import number
 
 JUMPS = (c_ast.Goto, c_ast.Label)
 LOOPS = (c_ast.While, c_ast.DoWhile, c_ast.For)

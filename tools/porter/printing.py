@@ -1,5 +1,4 @@
 """The text of the sections, and for each line the file and the line that it comes from."""
-from .ctypes import Void, known
 
 
 class Printer:

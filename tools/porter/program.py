@@ -2,7 +2,7 @@
 a pointer stands for, the second writes."""
 from .body import Body
 from .common import Refused
-from .ctypes import Function, Void, known
+from .ctypes import Void, known
 from .printing import Printer
 from .units import Unit
 

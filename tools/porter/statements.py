@@ -2,8 +2,8 @@
 from pycparser import c_ast
 
 from .common import Refused
-from .ctypes import INT, UNSIGNED, Void, known
-from .values import ATOM, Place, Value, number
+from .ctypes import Void, known
+from .values import Place
 
 
 class Target:

@@ -4,8 +4,8 @@ import os
 from pycparser import c_ast
 
 from .body import Body
-from .common import MOST_PARAMETERS, Names, Refused
-from .ctypes import (CHAR, INT, VOID, Array, Function, Pointer, Struct, Void, base_of, known, target_of, unify)
+from .common import Names, Refused
+from .ctypes import CHAR, INT, VOID, Array, Function, Struct, Void, base_of, known, target_of, unify
 from .declarations import Entity, Scope
 from .helpers import Helpers
 from .layout import Layout

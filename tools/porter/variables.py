@@ -2,8 +2,7 @@
 that run before the section's first function."""
 from .body import Body
 from .common import Refused
-from .ctypes import INT, VOID, Function, base_of, known
-from .declarations import Entity
+from .ctypes import base_of, known
 from .initial import Fill, leaf_place, leaves_of
 from .values import ATOM, Place
 

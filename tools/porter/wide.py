@@ -1,7 +1,8 @@
 """`long long` as two words. Sums and differences are written out; products, quotients and shifts by a variable count
 call the functions of library/wide.c. What overflows wraps: no blame comes of it."""
 from .ctypes import INT, UNSIGNED, promoted
-from .values import AND, ATOM, BIT_AND, BIT_OR, BIT_XOR, EQUAL, LESS, OR, PREFIX, SHIFT, SUM, Value, binary, number, prefix
+from .values import (AND, ATOM, BIT_AND, BIT_OR, BIT_XOR, EQUAL, LESS, OR, PREFIX, SHIFT, SUM, Value, binary, number,
+                     prefix)
 
 BITWISE = {"&": BIT_AND, "|": BIT_OR, "^": BIT_XOR}
 CALLED = {"*": "multiply", "/": "divide", "%": "remainder"}
