@@ -27,6 +27,7 @@ IN_LIBRARY = {
               "port_remainder_signed port_high",
 }
 FILE_OF = {name: file for file, names in IN_LIBRARY.items() for name in names.split()}
+OF_THE_COMPILER = {"abs", "labs", "llabs", "ffs"}
 BUILTINS = {"abort", "exit", "malloc", "calloc", "free", "memcpy", "memmove", "memset", "memcmp", "memchr",
             "qsort"}
 
@@ -136,6 +137,8 @@ class Unit(Helpers, Layout, Variables, Sections):
         if node is not None:
             if entity.node is not None:
                 raise Refused(coord, f"a second definition of {name}")
+            if name in OF_THE_COMPILER and self.file in self.paths:
+                raise Refused(coord, f"a definition of {name}, in whose place compilers use their own")
             entity.node, entity.scope, entity.file = node, body.scope, self.file
         body.scope.names[name] = entity
         return entity
