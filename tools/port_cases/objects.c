@@ -5,6 +5,8 @@ void output(int value);
 
 struct point { short x, y; };
 struct shape { char name[6]; struct point corners[2]; struct shape *next; int (*area)(const struct shape *); };
+union number { int i; unsigned u; char text[4]; } number = {-7}, others[3];
+struct tagged { int kind; union { struct point p; short s; } of; } tagged = {1, {{5, 6}}};
 struct b;
 struct a { struct b *other; int n; };
 struct b { struct a *other; long long m; };
@@ -49,6 +51,10 @@ int main(void) {
   char text[] = "local";
   void *memory;
   struct point *list;
+  number.u >>= 28;
+  others[1] = number;
+  tagged.of.p.x += others[1].i;
+  output(tagged.of.p.x + sizeof number + sizeof tagged);
   a.other = &b;
   output(a.other->other->n + (int)(b.m >> 38));
   for (s = shapes; s; s = s->next)

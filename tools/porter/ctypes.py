@@ -100,7 +100,12 @@ class Struct(Type):
 
     def __init__(self, tag):
         self.tag, self.members, self.defined_at, self.target = tag, None, None, None
-        self.group = self
+        self.group, self.is_union, self.seen = self, False, None
+
+    def kept(self):
+        """The members that take cells: of a union the one that the program uses."""
+        named = [it for it in self.members if it.name]
+        return [self.seen or named[0]] if self.is_union and named else named
 
     def member(self, name):
         return next((it for it in self.members or () if it.name == name), None)
@@ -141,6 +146,10 @@ def layout(struct, coord):
     if struct.members is None:
         raise Refused(coord, f"the size of the incomplete {struct!r}")
     at, most = 0, 1
+    if struct.is_union:
+        most = max(align_of(it.type, coord) for it in struct.members)
+        size = max(size_of(it.type, coord) for it in struct.members)
+        return (size + most - 1) // most * most, most
     for it in struct.members:
         align = align_of(it.type, coord)
         if it.width is None:

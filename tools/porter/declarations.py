@@ -136,9 +136,12 @@ class Declarations:
         return kind
 
     def type_Union(self, node, key):
-        if node.decls and len(node.decls) == 1:
-            return self.type_Struct(node, key)
-        raise Refused(node.coord, "a union")
+        struct = self.type_Struct(node, key)
+        if node.decls and len(node.decls) > 1:
+            struct.is_union = True
+            if any(it.width is not None or not it.name for it in struct.members):
+                raise Refused(node.coord, "a union with bit fields")
+        return struct
 
     def type_Struct(self, node, key):
         where = (str(node.coord), node.name)

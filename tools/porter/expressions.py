@@ -122,7 +122,8 @@ class Expressions(Arithmetic, Wide):
         member = struct.member(node.field.name)
         if member is None:
             raise Refused(node.coord, f"{struct!r} has no known member {node.field.name}")
-        return Place(text + member.target, POSTFIX, member.type, "s", member.width)
+        target = self.unit.sees(struct, member, node.coord) if struct.is_union else member.target
+        return Place(text + target, POSTFIX, member.type, "s", member.width)
 
     def dereferenced(self, value, coord):
         kind = known(value.type)

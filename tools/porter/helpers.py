@@ -51,7 +51,7 @@ class Helpers:
         if kind.is_struct:
             self.wants_complete(kind, None)
             lines = []
-            for it in kind.members:
+            for it in kind.kept():
                 if it.name:
                     lines += self.assigned_member(it, to, source)
             return lines

@@ -13,7 +13,7 @@ def leaves_of(kind):
     if kind.is_array:
         return kind.count * leaves_of(kind.of)
     if kind.is_struct:
-        return sum(leaves_of(it.type) for it in kind.members if it.name)
+        return sum(leaves_of(it.type) for it in kind.kept())
     return 1
 
 
@@ -26,7 +26,7 @@ def leaf_place(place, kind, index):
         inner = Place(f"{place.at(POSTFIX)}[{index // each}]", POSTFIX, base)
         return leaf_place(inner, base, index % each)
     if kind.is_struct:
-        for it in kind.members:
+        for it in kind.kept():
             if it.name:
                 count = leaves_of(it.type)
                 if index < count:
@@ -81,7 +81,9 @@ class Fill:
             each = leaves_of(kind.of)
             return [(at * each, kind.of, None) for at in range(kind.count)]
         found, at = [], 0
-        for it in kind.members:
+        if kind.is_union:
+            self.translator.unit.sees(kind, kind.members[0], self.translator.coord)
+        for it in kind.kept():
             if it.name:
                 found.append((at, it.type, it.name))
                 at += leaves_of(it.type)
@@ -238,7 +240,7 @@ class Initial:
                 place, kind = Place(f"{place.at(POSTFIX)}[{index // each}]", POSTFIX, base), base
                 index %= each
                 continue
-            for it in kind.members:
+            for it in kind.kept():
                 if it.name:
                     count = leaves_of(it.type)
                     if index < count:

@@ -1,7 +1,7 @@
 """How structures are written: in an order in which each is defined before it is used, and structures that point to
 each other as one, which has the members of all."""
 from .common import Names, Refused
-from .ctypes import base_of, is_function_pointer, known, target_of
+from .ctypes import base_of, is_function_pointer, known, target_of, unify
 
 
 def mentioned(kind):
@@ -29,6 +29,21 @@ class Layout:
         for it in struct.members:
             if it.name:
                 it.target = names.take(it.name)
+
+    def sees(self, struct, member, coord):
+        """A member of a union is used: all that are have to be kept alike."""
+        if struct.seen is None:
+            struct.seen = member
+        first, second = base_of(struct.seen.type), base_of(member.type)
+        alike = target_of(first[0]) == target_of(second[0]) and first[1] == second[1] and \
+            known(struct.seen.type).is_array == known(member.type).is_array
+        if alike and first[0].is_integer and second[0].is_integer:
+            alike = first[0].size == second[0].size and first[0].is_bool == second[0].is_bool
+        elif alike and struct.seen is not member:
+            alike = first[0].is_pointer and second[0].is_pointer and unify(first[0], second[0])
+        if not alike:
+            raise Refused(coord, f"a union whose members {struct.seen.name} and {member.name} are both used")
+        return struct.seen.target
 
     def wants_complete(self, kind, coord):
         if kind.is_struct and kind.members is None:
@@ -81,7 +96,7 @@ class Layout:
         for parts in self.ordered_groups():
             lines.append(f"struct {parts[0].group.target} {{")
             for struct in parts:
-                for member in struct.members:
+                for member in struct.kept():
                     if member.name:
                         lines.append("  " + self.declarator(member.type, member.target) + ";")
             if not any(member.name for struct in parts for member in struct.members):
