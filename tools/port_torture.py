@@ -2,8 +2,8 @@
 """Ports and runs gcc's torture suite: `port_torture.py FOLDER [--secomp PROGRAM] [--only WORD]`.
 
 FOLDER is gcc.c-torture/execute of Debian's gcc-12-source, unpacked. Each program checks itself: it agrees where the
-ported text ends with 0 under `run`. The last lines count what goes through, what agrees, and the reasons of refusals.
-This takes some twenty minutes and isn't in the gate.
+ported text ends with 0 under `run`, and is slow where it takes more than 16,777,216 steps. The last lines count what
+goes through, what agrees, and the reasons of refusals. This takes some minutes and isn't in the gate.
 """
 import argparse
 import collections
@@ -47,6 +47,10 @@ def outcome(secomp, path):
         return "agrees", "", None
     meant = subprocess.run([secomp, "meaning", "--turns=16777216"], input=text.encode(), capture_output=True,
                            check=False)
+    last = meant.stdout.decode().splitlines()[-2:]
+    if lines[-1:] == ["stop steps"] and last in (["end Main 0", "stop ended"], ["stop turns"]) or \
+            lines[-1:] == ["stop steps"] and last[-1:] == ["stop turns"]:
+        return "slow", f"{last}", None
     return "differs", f"{lines[-1] if lines else ''}; {meant.stdout.decode().splitlines()[-1:]}", None
 
 
