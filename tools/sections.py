@@ -73,6 +73,24 @@ def read(path):
         return stop(f"{path}: {error.strerror}")
 
 
+def origin(path, number):
+    """The line that this one of a ported text comes from, as FILE:LINE with what stands there, by the map that
+    tools/port writes beside the text; nothing where there is no map, or the line is the porter's own."""
+    try:
+        with open(path + ".map", encoding="utf-8", errors="replace") as it:
+            places = dict(line.rstrip("\n").split(" ", 1) for line in it if " " in line)
+    except OSError:
+        return ""
+    found = places.get(str(number), "")
+    file, _, line = found.rpartition(":")
+    try:
+        with open(file, encoding="utf-8", errors="replace") as it:
+            lines = it.read().split("\n")
+        return f"{found}: {lines[int(line) - 1].strip()}"
+    except (OSError, ValueError, IndexError):
+        return found
+
+
 def commands(document):
     """Each command of a document, what is shown below it, and all that follows."""
     lines = read(document).decode().split("\n")

@@ -1,0 +1,3 @@
+/* refused at line 2: no floating point */
+float f;
+int main(void) { return f > 1; }

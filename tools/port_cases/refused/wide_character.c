@@ -1,0 +1,4 @@
+/* refused at line 3: a wide character */
+int main(void) {
+  return L'a' != 97;
+}

@@ -1,0 +1,4 @@
+#ifndef PORT_STDARG_H
+#define PORT_STDARG_H
+typedef char *va_list;
+#endif
