@@ -79,8 +79,8 @@ module _ (source : SourceParts) (given : List ℕ) (inputs : List ℕ) (steps : 
         legal source.program.interfaces trace ≡ true → length trace ≤ 4096 → All HasWords trace →
         IsChainWith source inputs steps trace given links
     at_last known none is_source one_program allowed few words =
-        is_chain source given inputs steps trace as_many one_program
-        (recomposed_means source trace is_source allowed few words) known links
+        is_chain source inputs steps trace as_many one_program
+        (recomposed_means source trace is_source allowed few words) given known links
         (ends source given inputs steps trace run links comps at (subst (IsNextOf interfaces trace run) none next))
 
 -- the run of the text in which a set performs

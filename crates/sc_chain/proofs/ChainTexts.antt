@@ -6,7 +6,7 @@ use Rattle.sc_chain.proofs.Common.{SourceParts, SourceRun, [], is_listed, ap, ar
 use Rattle.sc_chain.proofs.Common.{chain_is_least, chains_rise, concat, empty_set, eqb-true, false, length, map}
 use Rattle.sc_chain.proofs.Common.{meaning, new_texts, nobody, performing, recomposed, refl, scripted_meaning, subst}
 use Rattle.sc_chain.proofs.Common.{suc, sym, take, take-append-le, take_all, true, ℕ, ◌++◌, ◌<◌, ◌==◌, ◌||◌, ◌∙◌, ◌∷◌}
-use Rattle.sc_chain.proofs.Common.{◌≡◌}
+use Rattle.sc_chain.proofs.Common.{◌≡◌, ◌≤◌}
 use Rattle.sc_base.specs.Prelude.{IsPrefix}
 use Rattle.sc_core_laws.proofs.Blames.{all_outside}
 use Rattle.sc_core_laws.specs.Chains as laws

@@ -4,7 +4,7 @@ use Rattle.sc_chain.proofs.Common.{IsChainWith, IsCompiled, IsExplained, IsRobus
 use Rattle.sc_chain.proofs.Common.{MachineRun, Ok, Stop, recomposed}
 use Rattle.sc_chain.proofs.Common.{ProgramTree, SourceParts, [], ap, get_or, image_of, is_listed, legal, length}
 use Rattle.sc_chain.proofs.Common.{machine, map, refl, scripted_meaning, subst, suc, sym, true, word_of, ℕ, ℤ, ◌<◌}
-use Rattle.sc_chain.proofs.Common.{◌∷◌, ◌≡◌}
+use Rattle.sc_chain.proofs.Common.{◌∷◌, ◌≡◌, ◌≤◌}
 use Rattle.std.specs.List.{AllZip}
 use Rattle.sc_core.specs.declared.explanation.Explanation.{Explanation}
 use Rattle.sc_core_laws.specs.Prelude.{IsSubset}
@@ -24,6 +24,7 @@ own_robust program image right = record {
   interfaces = right.interfaces;
   scripted = λ inputs steps events set larger are. right.scripted inputs steps events set are;
   allowed = right.allowed;
+  trapped_outside = right.trapped_outside;
 }
 
 module _ (source : SourceParts) (inputs : List ℤ) (steps events : ℕ) (image : ImageParts) (given : List ℕ)

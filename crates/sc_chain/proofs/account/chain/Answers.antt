@@ -7,7 +7,7 @@ loop-run-init c =
     at_first c.args.source.now c.args.given.now (map word_of c.args.inputs.now) c.args.steps c.args.trace.now
     (sections_are c.args.source.now c.program-program.result.now c.program-program.ensures.program
     c.tree-tree.ensures.typed)
-    c.requires.known c.requires.scripted c.in_ok-run.run' c.in_ok-run.ensures c.new.result c.new.ensures
+    c.requires.known c.requires.scripted c.in_ok-run.run' c.in_ok-run.ensures c.new-links.result c.new-links.ensures
     c.in_ok-comps.comps c.in_ok-comps.ensures
 
 pub replaced-requires-clause-known : goal.replaced-requires-clause-known
