@@ -311,7 +311,7 @@ module _
       accepted_or_refused text a.program r.phase r.line a.accepted h
   bad_or_other c image text (status.TooLarge fault) h a =
       let same = one_program text a.program h.program a.accepted h.accepted in
-      let fits = fits_of a.program (built_image a.program) a.another.own a.another.compiled in
+      let fits = fits_of (too_large a.program) (built_image a.program) a.another.own a.another.compiled in
       let none = subst (λ p. too_large p ≡ None) same fits in
       none-some fault (ap (option_and_then _) (sym none) ∙ h.found)
   bad_or_other c image text (status.TooLong most) h a = h

@@ -21,7 +21,7 @@ use Rattle.sc_top.proofs.Rising.{one_rising}
 
 module _ (source : SourceParts) (options : RunOptions) (explanation : Explanation) where
   -- where the text isn't too long to be compiled, no text of the chain is too long to be read
-  shorts : (image : Option ImageParts) → IsExplainedOn image source options explanation →
+  pub shorts : (image : Option ImageParts) → IsExplainedOn image source options explanation →
       length source.bytes ≤ 1048576 → (set : ℕ → Bool) →
       length (recomposed source explanation.trace set) ≤ 8388608
   shorts None is = is.short
@@ -37,7 +37,7 @@ module _ (source : SourceParts) (options : RunOptions) (explanation : Explanatio
   chain_from_given (Some image) is = is.account.chain.chain
 
 -- a text that was read, with an account
-pub has_account : (options : RunOptions) (image : Option ImageParts) (bytes : List ℕ) (source : SourceParts)
+abbrev pub has_account : (options : RunOptions) (image : Option ImageParts) (bytes : List ℕ) (source : SourceParts)
     (explanation : Explanation) → IsSource source → source.bytes ≡ bytes →
     IsExplainedOn image source options explanation → length bytes ≤ 1048576 → HasAccount options image bytes
 has_account options image bytes source explanation parts whole explained short = record {

@@ -1,4 +1,5 @@
-use Rattle.sc_top.proofs.Common.{Err, IfErr, ap, rules, subst}
+use Rattle.std.specs.Result.{IfErr}
+use Rattle.sc_top.proofs.Common.{Err, ap, rules, subst}
 use Rattle.sc_chain.specs.Prelude.{IsImageFault}
 use Rattle.sc_top.proofs.Outputs.{compiling_another}
 use Rattle.sc_top.proofs.account.image_explained.Goals as goal
