@@ -189,4 +189,4 @@ input_within (Some limit) left left_after bytes input = input.within
 -- where no image is asked for the bytes of a run that is accounted for are short
 pub short_text : (image : Bool) (bytes : List ℕ) → IsWithinLimit (limit_in (accounted_intake image)) bytes →
     image ≡ false → length bytes ≤ 1048576
-short_text image bytes within no = subst (λ b. IsWithinLimit (limit_in (accounted_intake b)) bytes) no within
+short_text image bytes within none = subst (λ b. IsWithinLimit (limit_in (accounted_intake b)) bytes) none within

@@ -89,6 +89,7 @@ join_cause bytes objects (failure.BadObject index cause) read why = absurd why
 join_cause bytes objects (failure.BadJoin fault) read why = record { objects = objects; read = read; found = why }
 join_cause bytes objects (failure.NoSection name) read why = why
 join_cause bytes objects (failure.BadPolicy line) read why = why
+join_cause bytes objects failure.Differs read why = elim why [ ]
 
 -- a fault of linking, by names
 pub why_not_joined : (objects : List ObjectParts) (fault : JoinFault) → IsJoinFault objects fault →

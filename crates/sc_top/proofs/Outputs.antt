@@ -18,6 +18,7 @@ use Rattle.sc_top.specs.declared.failure.Failure.TheVariants as failure
 use Rattle.sc_top.proofs.Causes.{same_some}
 use Rattle.sc_top.specs.Tagged.{IsTagged, tag_text}
 use Rattle.sc_top_words.specs.declared.command.DataRange.{DataRange}
+use Rattle.sc_top_words.specs.declared.command.JudgeOptions.{JudgeOptions}
 use Rattle.sc_top.proofs.Chains.{one_account, one_summary, one_verdict}
 
 -- a command that asks for no section has what it asks for
@@ -205,6 +206,30 @@ another_cause limit within command bytes front program failure.Differs short acc
       );
     }
 
+-- the same for each command that takes such input, compiles, and asks for no section
+abbrev pub IsCauseOfAny : Intake → List ℕ → Failure → Type 0
+IsCauseOfAny intake bytes f = (command : Command) → section_of command ≡ None → IsTrue (compiles command) →
+    IsCauseIn intake command bytes f
+
+pub any_reading : (limit : ℕ) (bytes : List ℕ) (f : Failure) → IsReading bytes f → IsCauseOfAny (Text limit) bytes f
+any_reading limit bytes f why command plain compiled = reading_cause limit command bytes f why
+
+pub any_text : (limit : ℕ) (bytes : List ℕ) (program : ProgramTree) (f : Failure) → Accepts bytes program →
+    IsCompiling program f → IsCauseOfAny (Text limit) bytes f
+any_text limit bytes program f accepted why command plain compiled =
+    text_cause limit command bytes program f accepted plain compiled why
+
+pub any_limited : (limit within : ℕ) (bytes : List ℕ) (front : BeginWithImage bytes) (f : Failure) →
+    IsLimited within (drop front.place bytes) f → IsCauseOfAny (ImageAndText limit within) bytes f
+any_limited limit within bytes front f why command plain compiled =
+    limited_cause limit within command bytes front f why
+
+pub any_another : (limit within : ℕ) (bytes : List ℕ) (front : BeginWithImage bytes) (program : ProgramTree)
+    (f : Failure) → length (drop front.place bytes) ≤ within → Accepts (drop front.place bytes) program →
+    IsAnotherCompiling program front.image f → IsCauseOfAny (ImageAndText limit within) bytes f
+any_another limit within bytes front program f short accepted why command plain compiled =
+    another_cause limit within command bytes front program f short accepted plain compiled why
+
 -- what is at fault after a policy
 pub policy_cause : (i : Intake) (command : Command) (bytes : List ℕ) (read : PolicyRead) (f : Failure) →
     IsPolicyRead bytes read → ((line : ℕ) → HasBadLineIn i (drop read.rest bytes) line → ⊥) →
@@ -240,6 +265,11 @@ judged_cause true command bytes read f is why =
     policy_cause (accounted_intake true) command bytes read f is (λ line h. h) (λ index cause h. h) (λ fault h. h) why
 judged_cause false command bytes read f is why =
     policy_cause (accounted_intake false) command bytes read f is (λ line h. h) (λ index cause h. h) (λ fault h. h) why
+
+pub judge_cause : (options : JudgeOptions) (bytes : List ℕ) (read : PolicyRead) (f : Failure) →
+    IsPolicyRead bytes read → IsCauseIn (accounted_intake options.image) (commands.Judge options) (drop read.rest bytes)
+    f → IsOutputCause (commands.Judge options) bytes f
+judge_cause options bytes read f is why = judged_cause options.image (commands.Judge options) bytes read f is why
 
 -- ONE OUTPUT
 

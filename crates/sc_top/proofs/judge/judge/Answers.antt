@@ -1,7 +1,7 @@
 use Rattle.sc_top.proofs.Common.{IsAccountFor, IsCauseIn, IsWellTyped, Judge, List, accounted_intake, arith, drop, length}
 use Rattle.sc_top.proofs.Common.{length-drop, refl, rules, subst, sym, take_rest, ℕ, ◌≤◌}
 use Rattle.sc_top.proofs.Committed.{judged_by}
-use Rattle.sc_top.proofs.Outputs.{judged_cause}
+use Rattle.sc_top.proofs.Outputs.{judge_cause}
 use Rattle.sc_top.proofs.judge.judge.Goals as goal
 
 pub accounted-requires-clause-short : goal.accounted-requires-clause-short
@@ -15,11 +15,11 @@ pub returns-in_err-found-clause-cause : goal.returns-in_err-found-clause-cause
 returns-in_err-found-clause-cause c =
     let options = c.args.options.now in
     let rest = take_rest c.args.bytes.now c.in_ok-read.read.rest in
-    let cause = judged_cause options.image (Judge options) c.args.bytes.now c.in_ok-read.read _
+    let cause = judge_cause options c.args.bytes.now c.in_ok-read.read _
     c.in_ok-read.ensures.read
     (subst (λ (b : List ℕ). IsCauseIn (accounted_intake options.image) (Judge options) b _) rest
-    (c.in_err-found.ensures.cause (Judge options) refl refl)) in
-    search (rules, cause)
+    (c.in_err-found.ensures.cause (Judge options) refl tt)) in
+    search (rules, cause, c.from_residual-in_err-found.ensures)
 
 pub returns-clause-ok : goal.returns-clause-ok
 returns-clause-ok c =
