@@ -219,10 +219,11 @@ pub any_text : (limit : ℕ) (bytes : List ℕ) (program : ProgramTree) (f : Fai
 any_text limit bytes program f accepted why command plain compiled =
     text_cause limit command bytes program f accepted plain compiled why
 
-pub any_limited : (limit within : ℕ) (bytes : List ℕ) (front : BeginWithImage bytes) (f : Failure) →
-    IsLimited within (drop front.place bytes) f → IsCauseOfAny (ImageAndText limit within) bytes f
-any_limited limit within bytes front f why command plain compiled =
-    limited_cause limit within command bytes front f why
+pub any_limited : (limit within : ℕ) (bytes : List ℕ) (front : BeginWithImage bytes) (text : List ℕ) →
+    text ≡ drop front.place bytes → (f : Failure) → IsLimited within text f →
+    IsCauseOfAny (ImageAndText limit within) bytes f
+any_limited limit within bytes front text rest f why command plain compiled =
+    limited_cause limit within command bytes front f (subst (λ text. IsLimited within text f) rest why)
 
 pub any_another : (limit within : ℕ) (bytes : List ℕ) (front : BeginWithImage bytes) (program : ProgramTree)
     (f : Failure) → length (drop front.place bytes) ≤ within → Accepts (drop front.place bytes) program →
@@ -266,10 +267,13 @@ judged_cause true command bytes read f is why =
 judged_cause false command bytes read f is why =
     policy_cause (accounted_intake false) command bytes read f is (λ line h. h) (λ index cause h. h) (λ fault h. h) why
 
-pub judge_cause : (options : JudgeOptions) (bytes : List ℕ) (read : PolicyRead) (f : Failure) →
-    IsPolicyRead bytes read → IsCauseIn (accounted_intake options.image) (commands.Judge options) (drop read.rest bytes)
-    f → IsOutputCause (commands.Judge options) bytes f
-judge_cause options bytes read f is why = judged_cause options.image (commands.Judge options) bytes read f is why
+pub judge_cause : (options : JudgeOptions) (bytes : List ℕ) (read : PolicyRead) (text : List ℕ) →
+    text ≡ drop read.rest bytes → IsPolicyRead bytes read → (f : Failure) →
+    IsCauseOfAny (accounted_intake options.image) text f → IsOutputCause (commands.Judge options) bytes f
+judge_cause options bytes read text rest is f why =
+    judged_cause options.image (commands.Judge options) bytes read f is
+    (subst (λ text. IsCauseIn (accounted_intake options.image) (commands.Judge options) text f) rest
+    (why (commands.Judge options) refl refl))
 
 -- ONE OUTPUT
 

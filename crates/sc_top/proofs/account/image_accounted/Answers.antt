@@ -13,8 +13,8 @@ returns-in_err-source-clause-cause c =
       well_formed = c.parts-parts.ensures.well_formed;
       begin = c.in_ok-image.ensures.image;
     } in
-    let cause = any_limited 67108864 1048576 bytes front _
-    (subst (λ (text : List ℕ). IsLimited 1048576 text _) (take_rest bytes front.place) c.in_err-source.ensures.cause) in
+    let cause = any_limited 67108864 1048576 bytes front _ (take_rest bytes front.place) _
+    c.in_err-source.ensures.cause in
     search (rules, cause)
 
 pub returns-in_err-explanation-clause-cause : goal.returns-in_err-explanation-clause-cause

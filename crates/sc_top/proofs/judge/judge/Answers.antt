@@ -14,12 +14,9 @@ accounted-requires-clause-short c = λ no.
 pub returns-in_err-found-clause-cause : goal.returns-in_err-found-clause-cause
 returns-in_err-found-clause-cause c =
     let options = c.args.options.now in
-    let rest = take_rest c.args.bytes.now c.in_ok-read.read.rest in
     let cause = judge_cause options c.args.bytes.now c.in_ok-read.read _
-    c.in_ok-read.ensures.read
-    (subst (λ (b : List ℕ). IsCauseIn (accounted_intake options.image) (Judge options) b _) rest
-    (c.in_err-found.ensures.cause (Judge options) refl tt)) in
-    search (rules, cause, c.from_residual-in_err-found.ensures)
+    (take_rest c.args.bytes.now c.in_ok-read.read.rest) c.in_ok-read.ensures.read _ c.in_err-found.ensures.cause in
+    search (rules, cause)
 
 pub returns-clause-ok : goal.returns-clause-ok
 returns-clause-ok c =
