@@ -8,10 +8,13 @@ import subprocess
 import sys
 
 from attack_text import Bad
-from sections import MOST_ARGUMENT, MOST_NUMBERS, program
+from command import MOST_NUMBERS
+from sections import program
 
 LIST = re.compile(r"-?\d{1,10}(,-?\d{1,10})*|")
 COMMANDS = ("check", "meaning", "run", "judge")
+# The longest argument that Linux takes, in bytes.
+MOST_ARGUMENT = 131071
 
 
 def read(path):

@@ -30,7 +30,11 @@ pub fn explain_text(
     Ok(text)
 }
 
-fn append_given(text: &mut Text, interfaces: &Interfaces, given: &[CompId]) -> Result<(), OutOfMemory>
+fn append_given(
+    text: &mut Text,
+    interfaces: &Interfaces,
+    given: &[CompId],
+) -> Result<(), OutOfMemory>
     ensures { OnOk result (text.new ≡ text.old ++ flat_map (given_line interfaces.now) given.now) }
 {
     for comp in given {
@@ -39,7 +43,11 @@ fn append_given(text: &mut Text, interfaces: &Interfaces, given: &[CompId]) -> R
     Ok(())
 }
 
-fn append_given_line(text: &mut Text, interfaces: &Interfaces, comp: CompId) -> Result<(), OutOfMemory>
+fn append_given_line(
+    text: &mut Text,
+    interfaces: &Interfaces,
+    comp: CompId,
+) -> Result<(), OutOfMemory>
     ensures { OnOk result (text.new ≡ text.old ++ given_line interfaces.now comp) }
 {
     text.append(b"given ")?;
