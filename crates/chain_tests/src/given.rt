@@ -78,7 +78,9 @@ const RENAMED: &[u8] = b"#pragma compartment Main
 int take(void);
 void output(int v);
 int main(void) {
-  output(take());
+  int r;
+  r = take();
+  output(r);
   return 0;
 }
 #pragma compartment Net
