@@ -130,7 +130,7 @@ fn a_chain_begins_with_the_given_compartments(rt: HostRuntime) -> Result<(), Fai
     let explanation = explained(rt.alloc(), OTHER)??;
     assert!(rt; given(&explanation) == 2);
     assert!(rt; explanation.links.len() == 1);
-    let link = &explanation.links.as_slice()[0];
+    let link = explanation.links.get(0).ok_or("no link")?;
     assert!(rt; link.comp.number() == 0);
     assert!(rt; link.after == 2);
     assert!(rt; link.cause == Cause::OutOfBounds);
