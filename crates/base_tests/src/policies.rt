@@ -68,6 +68,7 @@ fn fixture(alloc: Global) -> Option<(Interfaces, Explanation)> {
         Explanation {
             trace,
             stop,
+            trapped: None,
             given: Items::new(alloc),
             links,
         },

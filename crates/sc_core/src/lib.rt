@@ -14,7 +14,7 @@ mod ty;
 mod value;
 
 pub use cause::Cause;
-pub use explanation::{Explanation, Link, Links};
+pub use explanation::{Explanation, Link, Links, TrapOrigin, Trapped};
 pub use expr::{CallTarget, TypedCall, TypedExpr, TypedExprs, TypedKind, VarRef};
 pub use place::TypedPlace;
 pub use program::{Program, ProgramTree};
