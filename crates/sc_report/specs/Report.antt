@@ -1,6 +1,6 @@
 -- The lines that report a run.
 use Rattle.sc_event.specs.Prelude.{comp_name, event_line}
-use Rattle.std.specs.Prelude.{ℕ, List, ◌++◌, length, flat_map, codes, decimal}
+use Rattle.std.specs.Prelude.{ℕ, List, [], ◌++◌, length, flat_map, codes, decimal, Option, None, Some}
 use Rattle.std.specs.Int.{w32, to_be_bytes}
 use Rattle.hex.specs.Hex.{encode_lower}
 use Rattle.sc_event.specs.declared.event.Event.{Event}
@@ -16,6 +16,9 @@ use Rattle.sc_base.specs.declared.stop.TrapReason.{TrapReason}
 use Rattle.sc_base.specs.declared.stop.TrapReason.TheVariants as reasons
 use Rattle.sc_core.specs.declared.explanation.Explanation.{Explanation}
 use Rattle.sc_core.specs.declared.explanation.Link.{Link}
+use Rattle.sc_core.specs.declared.explanation.TrapOrigin.{TrapOrigin}
+use Rattle.sc_core.specs.declared.explanation.TrapOrigin.TheVariants as origins
+use Rattle.sc_core.specs.declared.explanation.Trapped.{Trapped}
 
 -- a line per event
 abbrev pub events_text : Interfaces → List Event → List ℕ
@@ -104,3 +107,18 @@ abbrev pub explain_text : Interfaces → Explanation → List ℕ
 explain_text interfaces explanation =
     (run_text interfaces explanation.trace explanation.stop ++
     flat_map (given_line interfaces) explanation.given) ++ chain_text interfaces explanation.links
+
+-- the last words of a line: why a compartment stands trapped
+abbrev pub origin_end : TrapOrigin → List ℕ
+origin_end origins.Replaced = codes " replaced\n"
+origin_end (origins.Blamed cause line) = cause_at_line cause line
+origin_end origins.FullStack = codes " stack\n"
+
+-- which compartment was active when a trap stopped the machine, and why
+abbrev pub trapped_line : Interfaces → Trapped → List ℕ
+trapped_line interfaces trapped = codes "trapped " ++ (comp_name interfaces trapped.comp ++ origin_end trapped.origin)
+
+-- this line where a trap stopped the machine
+abbrev pub trapped_text : Interfaces → Option Trapped → List ℕ
+trapped_text interfaces None = []
+trapped_text interfaces (Some trapped) = trapped_line interfaces trapped

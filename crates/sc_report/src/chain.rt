@@ -1,12 +1,12 @@
 ghost use Rattle.sc_event.specs.Prelude.{IsKnown};
 ghost use Rattle.std.specs.Prelude.{◌≡◌, ◌++◌, All, IfOk, OnOk, codes, flat_map, length};
 ghost use Rattle.sc_report.specs.Report.{cause_at_line, chain_text, explain_text, given_line, link_end, link_line};
-ghost use Rattle.sc_report.specs.Report.{number_end};
+ghost use Rattle.sc_report.specs.Report.{number_end, origin_end, trapped_line, trapped_text};
 
 use crate::run::{append_count, append_number, cause_word, run_text};
 use itoa::Buffer;
 use sc_base::{OutOfMemory, Text};
-use sc_core::{Cause, Explanation, Link};
+use sc_core::{Cause, Explanation, Link, TrapOrigin, Trapped};
 use sc_event::{CompId, Interfaces};
 use std::alloc::Global;
 
@@ -28,6 +28,44 @@ pub fn explain_text(
     append_given(&mut text, interfaces, explanation.given.as_slice())?;
     append_chain(&mut text, interfaces, explanation.links.as_slice())?;
     Ok(text)
+}
+
+/// Adds the line that says who stopped the machine and why, or nothing where no trap did. After an `Err` a part of it may
+/// have been added.
+pub fn append_trapped(
+    text: &mut Text,
+    interfaces: &Interfaces,
+    trapped: Option<Trapped>,
+) -> Result<(), OutOfMemory>
+    ensures { OnOk result (text.new ≡ text.old ++ trapped_text interfaces.now trapped) }
+{
+    match trapped {
+        None => Ok(()),
+        Some(trapped) => append_trapped_line(text, interfaces, trapped),
+    }
+}
+
+fn append_trapped_line(
+    text: &mut Text,
+    interfaces: &Interfaces,
+    trapped: Trapped,
+) -> Result<(), OutOfMemory>
+    ensures { OnOk result (text.new ≡ text.old ++ trapped_line interfaces.now trapped) }
+{
+    text.append(b"trapped ")?;
+    text.append(interfaces.comp_name(trapped.comp))?;
+    append_origin(text, trapped.origin)
+}
+
+// Why the compartment stands trapped, as the last words of a line.
+fn append_origin(text: &mut Text, origin: TrapOrigin) -> Result<(), OutOfMemory>
+    ensures { OnOk result (text.new ≡ text.old ++ origin_end origin) }
+{
+    match origin {
+        TrapOrigin::Replaced => text.append(b" replaced\n"),
+        TrapOrigin::Blamed { cause, line } => append_cause_at_line(text, cause, line),
+        TrapOrigin::FullStack => text.append(b" stack\n"),
+    }
 }
 
 fn append_given(

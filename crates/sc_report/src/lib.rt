@@ -9,7 +9,7 @@ mod run;
 mod summary;
 mod verdict;
 
-pub use chain::explain_text;
+pub use chain::{append_trapped, explain_text};
 pub use interface::check_text;
 pub use make::make_text;
 pub use run::{meaning_text, run_text};

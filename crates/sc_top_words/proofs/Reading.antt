@@ -2,7 +2,7 @@
 use Rattle.sc_top_words.proofs.Common.{App, Bool, Box, ErrorKind, Form, Given, HasMatchesOf, IsAmong, IsReading}
 use Rattle.sc_top_words.proofs.Common.{List, None, Option, Row, Says, Some, Text, [], ap, application, bytes_eq, codes}
 use Rattle.sc_top_words.proofs.Common.{command, command_with, commands, events, false, fault_of, first_of}
-use Rattle.sc_top_words.specs.Prelude.{HasFlags, explain_form, judge_form}
+use Rattle.sc_top_words.specs.Prelude.{HasAccountFlags, HasFlags, explain_form, judge_form}
 use Rattle.sc_top_words.proofs.Common.{first_value-rows, flag_text, form_of, given_value, has_option, has_value, inputs}
 use Rattle.sc_top_words.proofs.Common.{is_among, is_bare, is_simple, limit, list_any, make_form, number_within, one_of}
 use Rattle.sc_top_words.proofs.Common.{one_text-rows, option_and_then, option_map, parsed, refl, rows_of, run_options}
@@ -68,12 +68,12 @@ values_same = by_command Same commands (
                     (runs_same _ settings rows says (refl, refl) (refl, refl) (refl, refl) i)),
                 (
                   (λ settings rows flag says i. option_map Explain (option_and_then (λ run. option_map (λ show.
-                      record { run = run; image = flag (codes "image"); show = show })
+                      record { run = run; image = flag (codes "image"); trapped = flag (codes "trapped"); show = show })
                       (text_to_show (says.values (codes "show") refl refl i)))
                       (runs_same _ settings rows says (refl, refl) (refl, refl) (refl, refl) i))),
                   (
                     (λ settings rows flag says i. option_map Judge (option_map (λ run.
-                        record { run = run; image = flag (codes "image") })
+                        record { run = run; image = flag (codes "image"); trapped = flag (codes "trapped") })
                         (runs_same _ settings rows says (refl, refl) (refl, refl) (refl, refl) i))),
                     (
                       (λ settings rows flag says i. option_map Make (option_and_then (λ size. option_map (λ seed.
@@ -157,8 +157,14 @@ unfolding command
 commanded words m name f r named rowed = record {
   flag = λ n. has_option n r.read.1;
   has = record {
-    explain = flag_is (codes "explain") explain_form (codes "image") refl refl refl;
-    judge = flag_is (codes "judge") judge_form (codes "image") refl refl refl;
+    explain = λ is. record {
+      image = flag_is (codes "explain") explain_form (codes "image") refl refl refl is;
+      trapped = flag_is (codes "explain") explain_form (codes "trapped") refl refl refl is;
+    };
+    judge = λ is. record {
+      image = flag_is (codes "judge") judge_form (codes "image") refl refl refl is;
+      trapped = flag_is (codes "judge") judge_form (codes "trapped") refl refl refl is;
+    };
     make = flag_is (codes "make") make_form (codes "summary") refl refl refl;
   };
   is = ap (option_and_then _) r.is

@@ -59,10 +59,15 @@ flag_text false = codes "false"
 abbrev pub IsFlag : Found → (flag : Text → Bool) → (name : Text) → Type 0
 IsFlag found flag name = one_text found name ≡ Some (flag_text (flag name))
 
+-- the parse found which flags of `explain` and `judge` are given
+pub record HasAccountFlags (found : Found) (flag : Text → Bool) : Type 0 where
+  pub image : IsFlag found flag (codes "image")
+  pub trapped : IsFlag found flag (codes "trapped")
+
 -- the parse found which flags of the command are given
 pub record HasFlags (command : Text) (found : Found) (flag : Text → Bool) : Type 0 where
-  pub explain : bytes_eq command (codes "explain") ≡ true → IsFlag found flag (codes "image")
-  pub judge : bytes_eq command (codes "judge") ≡ true → IsFlag found flag (codes "image")
+  pub explain : bytes_eq command (codes "explain") ≡ true → HasAccountFlags found flag
+  pub judge : bytes_eq command (codes "judge") ≡ true → HasAccountFlags found flag
   pub make : bytes_eq command (codes "make") ≡ true → IsFlag found flag (codes "summary")
 
 -- the rows say which options are given, with their values

@@ -1,6 +1,7 @@
 -- What this crate's contracts, its proofs and the crates above cite, passed on from one place. Declares nothing.
 pub use Rattle.clap.specs.Words.{app_of, found_of, kind_of}
-pub use Rattle.sc_top_words.specs.Application.{HasFlags, IsArgumentOf, IsCommandOf, IsFlag, IsReading, Says}
+pub use Rattle.sc_top_words.specs.Application.{HasAccountFlags, HasFlags, IsArgumentOf, IsCommandOf, IsFlag}
+pub use Rattle.sc_top_words.specs.Application.{IsReading, Says}
 pub use Rattle.sc_top_words.specs.Application.{application, flag_rule, flag_text, shape_with, top, valued_rule}
 pub use Rattle.sc_number.specs.Numbers.{integer, number, number_within, when_within}
 pub use Rattle.sc_top_words.specs.Numbers.{first_piece, integer_list, is_comma, onto_first, pieces_after, prepended}

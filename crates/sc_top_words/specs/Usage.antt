@@ -29,8 +29,8 @@ usage_text = lines_text (
     codes "  --data S,B,C tags: B bytes from address S on are compartment C's data (none)" ∷
     codes "  --show K     explain: only the text after K replacements, 0 to 32" ∷
     codes "  --image      explain, judge: run the image that stands before the text" ∷
+    codes "  --trapped    explain, judge: also who stopped the machine, where a trap did" ∷
     codes "  --section C  object, needed: the name of the section" ∷
-    codes "  --size K     make, needed: how many functions, 1 to 1000" ∷
-    codes "  --seed N     make, needed: which program, 0 to 4294967295" ∷
+    codes "  --size K --seed N  make, both needed: 1 to 1000 functions; N up to 4294967295" ∷
     codes "  --summary    make: a summary of the program in place of its text" ∷
     [])

@@ -31,14 +31,14 @@ abbrev pub explain_form : Form
 explain_form = record {
   needed = [];
   valued = codes "steps" ∷ codes "events" ∷ codes "in" ∷ codes "show" ∷ [];
-  flags = codes "image" ∷ [];
+  flags = codes "image" ∷ codes "trapped" ∷ [];
 }
 
 abbrev pub judge_form : Form
 judge_form = record {
   needed = [];
   valued = codes "steps" ∷ codes "events" ∷ codes "in" ∷ [];
-  flags = codes "image" ∷ [];
+  flags = codes "image" ∷ codes "trapped" ∷ [];
 }
 
 abbrev pub object_form : Form
@@ -116,11 +116,14 @@ text_to_show (Some text) = option_map Some (number_within 0 most_compartments te
 
 abbrev pub explain : Values → Flags → Option ExplainOptions
 explain value flag =
-    option_and_then (λ run. option_map (λ show. record { run = run; image = flag (codes "image"); show = show })
+    option_and_then (λ run. option_map (λ show.
+    record { run = run; image = flag (codes "image"); trapped = flag (codes "trapped"); show = show })
     (text_to_show (value (codes "show")))) (run_options value)
 
 abbrev pub judge : Values → Flags → Option JudgeOptions
-judge value flag = option_map (λ run. record { run = run; image = flag (codes "image") }) (run_options value)
+judge value flag =
+    option_map (λ run. record { run = run; image = flag (codes "image"); trapped = flag (codes "trapped") })
+    (run_options value)
 
 -- the bytes that are tagged as data of a compartment, if the option is given
 abbrev pub data_range : Option Text → Option (Option DataRange)

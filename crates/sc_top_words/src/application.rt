@@ -57,13 +57,16 @@ fn explain<'a>(alloc: Global) -> Result<Command<'a>, AllocError>
 {
     running(alloc, "explain", "steps")?
         .arg(valued(alloc, "show"))?
-        .arg(flags(alloc, "image"))
+        .arg(flags(alloc, "image"))?
+        .arg(flags(alloc, "trapped"))
 }
 
 fn judge<'a>(alloc: Global) -> Result<Command<'a>, AllocError>
     ensures { IfOk result (IsCommandOf (codes "judge") judge_form) }
 {
-    running(alloc, "judge", "steps")?.arg(flags(alloc, "image"))
+    running(alloc, "judge", "steps")?
+        .arg(flags(alloc, "image"))?
+        .arg(flags(alloc, "trapped"))
 }
 
 fn object<'a>(alloc: Global) -> Result<Command<'a>, AllocError>

@@ -75,6 +75,8 @@ pub struct ExplainOptions {
     pub run: RunOptions,
     /// Whether an image stands before the text. Then the machine runs that image.
     pub image: bool,
+    /// Whether the report says who stopped the machine, where a trap did.
+    pub trapped: bool,
     /// Which text of the chain is written in place of the report, 0 to 32.
     pub show: Option<u32>,
 }
@@ -85,6 +87,8 @@ pub struct JudgeOptions {
     pub run: RunOptions,
     /// Whether an image stands between the policy and the text. Then the machine runs that image.
     pub image: bool,
+    /// Whether the report says who stopped the machine, where a trap did.
+    pub trapped: bool,
 }
 
 /// Bytes that are tagged as data of a compartment.

@@ -8,13 +8,13 @@
 //! | `object` | `--section C` |
 //! | `run`, `exec` | `--steps N`, `--events M`, `--in LIST` |
 //! | `tags` | `--steps N`, `--events M`, `--in LIST`, `--data START,BYTES,C` |
-//! | `explain` | `--steps N`, `--events M`, `--in LIST`, `--show K`, `--image` |
-//! | `judge` | `--steps N`, `--events M`, `--in LIST`, `--image` |
+//! | `explain` | `--steps N`, `--events M`, `--in LIST`, `--show K`, `--image`, `--trapped` |
+//! | `judge` | `--steps N`, `--events M`, `--in LIST`, `--image`, `--trapped` |
 //! | `make` | `--size K`, `--seed N`, `--summary` |
 //!
 //! The first word is the command. An option is written `--name value` or `--name=value`, in any order, and at most
-//! once. A value in a word of its own doesn't begin with a hyphen. `--image` and `--summary` are flags, which have
-//! no value. `make` needs its other two, and `object` its one.
+//! once. A value in a word of its own doesn't begin with a hyphen. `--image`, `--trapped` and `--summary` are flags,
+//! which have no value. `make` needs its other two, and `object` its one.
 //! Every other word makes the words no command, also `--`, `-h`, `--help`, `help` and an abbreviation.
 //!
 //! | value | what it may be | where the option isn't given |

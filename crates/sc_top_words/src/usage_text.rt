@@ -27,9 +27,9 @@ options, each at most once; in parentheses what holds where one is not given
   --data S,B,C tags: B bytes from address S on are compartment C's data (none)
   --show K     explain: only the text after K replacements, 0 to 32
   --image      explain, judge: run the image that stands before the text
+  --trapped    explain, judge: also who stopped the machine, where a trap did
   --section C  object, needed: the name of the section
-  --size K     make, needed: how many functions, 1 to 1000
-  --seed N     make, needed: which program, 0 to 4294967295
+  --size K --seed N  make, both needed: 1 to 1000 functions; N up to 4294967295
   --summary    make: a summary of the program in place of its text
 "
 }

@@ -1,7 +1,8 @@
 ghost use Rattle.sc_base.specs.Prelude.{Text};
-ghost use Rattle.sc_top_words.specs.Prelude.{HasFlags, IsFlag, command_with, data_range, events, explain, flag_text};
-ghost use Rattle.sc_top_words.specs.Prelude.{found_of, inputs, judge, limit, make, meaning_options, number_within};
-ghost use Rattle.sc_top_words.specs.Prelude.{object, run_options, section, section_name, tags, text_to_show};
+ghost use Rattle.sc_top_words.specs.Prelude.{HasAccountFlags, HasFlags, IsFlag, command_with, data_range, events};
+ghost use Rattle.sc_top_words.specs.Prelude.{explain, flag_text, found_of, inputs, judge, limit, make};
+ghost use Rattle.sc_top_words.specs.Prelude.{meaning_options, number_within, object, run_options, section, section_name};
+ghost use Rattle.sc_top_words.specs.Prelude.{tags, text_to_show};
 ghost use Rattle.std.specs.Prelude.{◌≡◌, Bool, Some, None, IfOk, IsErrOf, codes, option_and_then, option_map};
 ghost use Rattle.clap.specs.Words.{first_value, one_text};
 
@@ -99,7 +100,7 @@ fn tags(alloc: Global, options: &ArgMatches<'_>) -> Result<Command, WordsFault>
 }
 
 fn explain(alloc: Global, options: &ArgMatches<'_>) -> Result<Command, WordsFault>
-    ensures ok { (flag : Text → Bool) → IsFlag (found_of options.now) flag (codes "image")
+    ensures ok { (flag : Text → Bool) → HasAccountFlags (found_of options.now) flag
         → IfOk result (λ read. option_map Command.Explain (explain (first_value (found_of options.now)) flag) ≡
         Some read) }
     ensures usage { (flag : Text → Bool) → IsErrOf result WordsFault.Usage
@@ -107,12 +108,18 @@ fn explain(alloc: Global, options: &ArgMatches<'_>) -> Result<Command, WordsFaul
 {
     let run = run_options(alloc, options)?;
     let image = is_set(options, "image");
+    let trapped = is_set(options, "trapped");
     let show = text_to_show(options).ok_or(WordsFault::Usage)?;
-    Ok(Command::Explain(ExplainOptions { run, image, show }))
+    Ok(Command::Explain(ExplainOptions {
+        run,
+        image,
+        trapped,
+        show,
+    }))
 }
 
 fn judge(alloc: Global, options: &ArgMatches<'_>) -> Result<Command, WordsFault>
-    ensures ok { (flag : Text → Bool) → IsFlag (found_of options.now) flag (codes "image")
+    ensures ok { (flag : Text → Bool) → HasAccountFlags (found_of options.now) flag
         → IfOk result (λ read. option_map Command.Judge (judge (first_value (found_of options.now)) flag) ≡
         Some read) }
     ensures usage { (flag : Text → Bool) → IsErrOf result WordsFault.Usage
@@ -120,7 +127,12 @@ fn judge(alloc: Global, options: &ArgMatches<'_>) -> Result<Command, WordsFault>
 {
     let run = run_options(alloc, options)?;
     let image = is_set(options, "image");
-    Ok(Command::Judge(JudgeOptions { run, image }))
+    let trapped = is_set(options, "trapped");
+    Ok(Command::Judge(JudgeOptions {
+        run,
+        image,
+        trapped,
+    }))
 }
 
 fn object(options: &ArgMatches<'_>) -> Result<Command, WordsFault>
