@@ -61,7 +61,10 @@ const NO_IMAGES: &str = "\
     explain --image=1|explain --image=|explain --image 1|explain --image true|explain --image --image|\
     explain --image=true|explain --imag|explain --show --image|explain image|judge --image=1|judge --image 1|\
     judge --image --image|judge --image --show 1|run --image|exec --image|tags --image|compile --image|link --image|\
-    meaning --image|check --image|make --size 1 --seed 1 --image|explain --summary|judge --summary";
+    meaning --image|check --image|make --size 1 --seed 1 --image|explain --summary|judge --summary|\
+    explain --trapped=1|explain --trapped 1|explain --trapped --trapped|explain --trap|judge --trapped=true|\
+    judge --trapped --trapped|run --trapped|exec --trapped|tags --trapped|meaning --trapped|check --trapped|\
+    make --size 1 --seed 1 --trapped|compile --trapped|link --trapped";
 
 // A command, and what it is read as.
 const COMMANDS: &str = "\
@@ -72,7 +75,7 @@ run -> Ok(Run(RunOptions { steps: 1000000, events: 1024, inputs: Items { items: 
 exec -> Ok(Exec(RunOptions { steps: 1000000, events: 1024, inputs: Items { items: [] } }))
 explain -> \
 Ok(Explain(ExplainOptions { run: RunOptions { steps: 1000000, events: 1024, inputs: Items { items: [] } }, \
-image: false, show: None }))
+image: false, trapped: false, show: None }))
 tags -> Ok(Tags(RunOptions { steps: 1000000, events: 1024, inputs: Items { items: [] } }, None))
 tags --data 16777224,4,0 -> Ok(Tags(RunOptions { steps: 1000000, events: 1024, inputs: Items { items: [] } }, \
 Some(DataRange { start: 16777224, bytes: 4, comp: CompId(0) })))
@@ -80,10 +83,13 @@ tags --data=4294967295,1,031 --steps 5 -> Ok(Tags(RunOptions { steps: 5, events:
 Some(DataRange { start: 4294967295, bytes: 1, comp: CompId(31) })))
 judge -> \
 Ok(Judge(JudgeOptions { run: RunOptions { steps: 1000000, events: 1024, inputs: Items { items: [] } }, \
-image: false }))
+image: false, trapped: false }))
 judge --image -> \
 Ok(Judge(JudgeOptions { run: RunOptions { steps: 1000000, events: 1024, inputs: Items { items: [] } }, \
-image: true }))
+image: true, trapped: false }))
+judge --trapped -> \
+Ok(Judge(JudgeOptions { run: RunOptions { steps: 1000000, events: 1024, inputs: Items { items: [] } }, \
+image: false, trapped: true }))
 run --steps 0 -> Ok(Run(RunOptions { steps: 0, events: 1024, inputs: Items { items: [] } }))
 run --steps=16777216 -> Ok(Run(RunOptions { steps: 16777216, events: 1024, inputs: Items { items: [] } }))
 run --steps 00000000000000000000000000000000000000007 -> \
@@ -102,16 +108,19 @@ run --in 2147483647,-2147483648 -> \
 Ok(Run(RunOptions { steps: 1000000, events: 1024, inputs: Items { items: [2147483647, -2147483648] } }))
 explain --show 32 -> \
 Ok(Explain(ExplainOptions { run: RunOptions { steps: 1000000, events: 1024, inputs: Items { items: [] } }, \
-image: false, show: Some(32) }))
+image: false, trapped: false, show: Some(32) }))
 explain --show=0 --steps 2 -> \
 Ok(Explain(ExplainOptions { run: RunOptions { steps: 2, events: 1024, inputs: Items { items: [] } }, \
-image: false, show: Some(0) }))
+image: false, trapped: false, show: Some(0) }))
 explain --image --steps 2 -> \
 Ok(Explain(ExplainOptions { run: RunOptions { steps: 2, events: 1024, inputs: Items { items: [] } }, \
-image: true, show: None }))
+image: true, trapped: false, show: None }))
+explain --trapped --image --events 3 -> \
+Ok(Explain(ExplainOptions { run: RunOptions { steps: 1000000, events: 3, inputs: Items { items: [] } }, \
+image: true, trapped: true, show: None }))
 explain --show=0 --image -> \
 Ok(Explain(ExplainOptions { run: RunOptions { steps: 1000000, events: 1024, inputs: Items { items: [] } }, \
-image: true, show: Some(0) }))
+image: true, trapped: false, show: Some(0) }))
 make --size 1000 --seed 4294967295 -> Ok(Make(MakeOptions { size: 1000, seed: 4294967295, summary: false }))
 make --summary --seed=0 --size=1 -> Ok(Make(MakeOptions { size: 1, seed: 0, summary: true }))
 make --size 1 --summary --seed 0 -> Ok(Make(MakeOptions { size: 1, seed: 0, summary: true }))

@@ -239,6 +239,7 @@ fn account(
     Ok(Explanation {
         trace,
         stop,
+        trapped: None,
         given,
         links,
     })

@@ -54,23 +54,25 @@ of_run (Some s) None inputs options few is = absurd (none-some options is)
 of_run (Some s) (Some e) None options few is = absurd (none-some options is)
 of_run (Some s) (Some e) (Some i) options few is = subst (λ o. o.events ≤ 4096) (same_value _ options is) (few e refl)
 
-of_explain : (run : Option RunOptions) (show : Option (Option ℕ)) (image : Bool) (options : ExplainOptions) →
+of_explain : (run : Option RunOptions) (show : Option (Option ℕ)) (image trapped : Bool) (options : ExplainOptions) →
     ((run_options : RunOptions) → run ≡ Some run_options → run_options.events ≤ 4096) →
-    option_and_then (λ run. option_map (λ show. record { run = run; image = image; show = show }) show) run ≡
+    option_and_then (λ run. option_map (λ show.
+    record { run = run; image = image; trapped = trapped; show = show }) show) run ≡
     Some options → IsBounded (Explain options)
-of_explain None show image options few is = absurd (none-some options is)
-of_explain (Some run) None image options few is = absurd (none-some options is)
-of_explain (Some run) (Some show) image options few is =
+of_explain None show image trapped options few is = absurd (none-some options is)
+of_explain (Some run) None image trapped options few is = absurd (none-some options is)
+of_explain (Some run) (Some show) image trapped options few is =
     subst (λ (o : ExplainOptions). o.run.events ≤ 4096)
-    (same_value (record { run = run; image = image; show = show }) options is) (few run refl)
+    (same_value (record { run = run; image = image; trapped = trapped; show = show }) options is) (few run refl)
 
-of_judge : (run : Option RunOptions) (image : Bool) (options : JudgeOptions) →
+of_judge : (run : Option RunOptions) (image trapped : Bool) (options : JudgeOptions) →
     ((run_options : RunOptions) → run ≡ Some run_options → run_options.events ≤ 4096) →
-    option_map (λ run. record { run = run; image = image }) run ≡ Some options → IsBounded (Judge options)
-of_judge None image options few is = absurd (none-some options is)
-of_judge (Some run) image options few is =
+    option_map (λ run. record { run = run; image = image; trapped = trapped }) run ≡ Some options →
+    IsBounded (Judge options)
+of_judge None image trapped options few is = absurd (none-some options is)
+of_judge (Some run) image trapped options few is =
     subst (λ (o : JudgeOptions). o.run.events ≤ 4096)
-    (same_value (record { run = run; image = image }) options is) (few run refl)
+    (same_value (record { run = run; image = image; trapped = trapped }) options is) (few run refl)
 
 of_make : (size seed : Option ℕ) (summary : Bool) (options : MakeOptions) →
     ((n : ℕ) → size ≡ Some n → (1 ≤ n) × (n ≤ 1000)) → ((n : ℕ) → seed ≡ Some n → (0 ≤ n) × (n ≤ 4294967295)) →
@@ -159,10 +161,10 @@ with_values name value flag c =
     (either (bytes_eq name _) _ _ c (λ is. subst IsBounded (same_value commands.Link c is) tt)
     (either (bytes_eq name _) _ _ c (mapped Run _ _ c) (either (bytes_eq name _) _ _ c (mapped Exec _ _ c)
     (either (bytes_eq name _) _ _ c (of_tags _ (value _) c)
-    (either (bytes_eq name _) _ _ c (mapped Explain _ (λ options. of_explain _ _ (flag _) options
+    (either (bytes_eq name _) _ _ c (mapped Explain _ (λ options. of_explain _ _ (flag _) (flag _) options
     (λ run. of_run (words.limit (value _)) (words.events (value _)) (words.inputs (value _)) run
     (of_events (value _)))) c)
-    (either (bytes_eq name _) _ _ c (mapped Judge _ (λ options. of_judge _ (flag _) options
+    (either (bytes_eq name _) _ _ c (mapped Judge _ (λ options. of_judge _ (flag _) (flag _) options
     (λ run. of_run (words.limit (value _)) (words.events (value _)) (words.inputs (value _)) run
     (of_events (value _)))) c)
     (either (bytes_eq name _) _ _ c (mapped Make _ (λ options. of_make _ _ (flag _) options

@@ -310,7 +310,7 @@ module _
       IsAccounted options bytes text → IsAccounted options bytes other → text ≡ other
   one_account options bytes text other is known =
       is.written ∙
-      ap₂ (account options.show) (found_source options.image options.run bytes bytes refl is.found known.found)
+      ap₂ (account options) (found_source options.image options.run bytes bytes refl is.found known.found)
       (found_explanation options.image options.run bytes bytes refl is.found known.found) ∙ sym known.written
 
   -- so have those that follow a policy
@@ -320,7 +320,7 @@ module _
   one_verdict one_policy options bytes text other is known =
       let read = one_policy bytes is.read known.read is.is known.is in
       let rest = ap (λ (r : PolicyRead). drop r.rest bytes) read in
-      is.written ∙ (λ i. judge_text (read i).policy
+      is.written ∙ (λ i. judge_text (read i).policy options.trapped
       (found_source options.image options.run _ _ rest is.found known.found i)
       (found_explanation options.image options.run _ _ rest is.found known.found i)) ∙ sym known.written
 

@@ -17,7 +17,7 @@ use Rattle.sc_event.specs.declared.event.Event.TheVariants.{Call, Ret, Out, In, 
 use Rattle.sc_monitor.specs.Prelude.{IsViolation, is_compromised, verdict}
 use Rattle.sc_monitor.specs.declared.verdict.Verdict.{Verdict}
 use Rattle.sc_monitor.specs.declared.verdict.Verdict.TheVariants.{Violated}
-use Rattle.sc_report.specs.Report.{explain_text}
+use Rattle.sc_top.specs.Prelude.{report_text}
 use Rattle.sc_report.specs.Verdict.{verdict_text}
 use Rattle.sc_top.proofs.Chains.{chain_from_given}
 use Rattle.std.proofs.lemmas.List.Folds.{list_any-append}
@@ -246,14 +246,14 @@ module _
       IsPolicyRead bytes read → IsAccountFor options.run options.image (drop read.rest bytes) account →
       IsWellTyped account.source.program →
       legal account.source.program.interfaces account.explanation.trace ≡ true →
-      text ≡ judge_text read.policy account.source account.explanation → IsJudged options bytes text
+      text ≡ judge_text read.policy options.trapped account.source account.explanation → IsJudged options bytes text
   judged_by options bytes text read account is made typed allowed written =
       let has = made.found.has in
       record {
         read = read;
         is = is;
         found = made.found;
-        written = written ∙ ap₂ (judge_text read.policy) (sym made.source) (sym made.explanation);
+        written = written ∙ ap₂ (judge_text read.policy options.trapped) (sym made.source) (sym made.explanation);
         committed = committed has.source has.parts (map word_of options.run.inputs) options.run.steps has.explanation
             (chain_from_given has.source options.run has.explanation made.found.image has.explained)
             (subst (λ (source : SourceParts). All (IsKnown source.program.interfaces) has.explanation.trace)
@@ -264,10 +264,10 @@ module _
       }
 
 -- the report, and the verdict's line after it
-pub with_verdict : (policy : Policy) (source : SourceParts) (explanation : Explanation) (names : Interfaces)
-    (says : Verdict) (report after : List ℕ) → names ≡ source.program.interfaces →
-    says ≡ verdict policy names explanation → report ≡ explain_text source.program.interfaces explanation →
-    after ≡ report ++ verdict_text policy.states names says → after ≡ judge_text policy source explanation
-with_verdict policy source explanation names says report after same is before added =
+pub with_verdict : (policy : Policy) (trapped : Bool) (source : SourceParts) (explanation : Explanation)
+    (names : Interfaces) (says : Verdict) (report after : List ℕ) → names ≡ source.program.interfaces →
+    says ≡ verdict policy names explanation → report ≡ report_text trapped source explanation →
+    after ≡ report ++ verdict_text policy.states names says → after ≡ judge_text policy trapped source explanation
+with_verdict policy trapped source explanation names says report after same is before added =
     added ∙ (λ i. before i ++ verdict_text policy.states (same i)
     ((is ∙ ap (λ (names : Interfaces). verdict policy names explanation) same) i))

@@ -12,13 +12,13 @@ use Rattle.sc_image.specs.Prelude.{BeginWithImage}
 use Rattle.sc_image.specs.declared.parts.ImageParts.{ImageParts}
 use Rattle.sc_top_words.specs.declared.command.RunOptions.{RunOptions}
 use Rattle.std.specs.Prelude.{◌≡◌, ◌≤◌, ◌++◌, ℕ, Bool, true, false, IsTrue, List, [], length, map, drop, Option, Some}
-use Rattle.std.specs.Prelude.{None}
+use Rattle.std.specs.Prelude.{None, if◌then◌else◌}
 use Rattle.std.specs.Prelude.{Ok}
 use Rattle.sc_core.specs.declared.explanation.Explanation.{Explanation}
 use Rattle.sc_core.specs.declared.run.SourceRun.{SourceRun}
 use Rattle.sc_report.specs.Check.{check_text}
 use Rattle.sc_report.specs.Made.{made_text}
-use Rattle.sc_report.specs.Report.{explain_text, meaning_text, run_text}
+use Rattle.sc_report.specs.Report.{explain_text, meaning_text, run_text, trapped_text}
 use Rattle.sc_report.specs.Summary.{summary_text}
 use Rattle.sc_report.specs.Verdict.{verdict_text}
 use Rattle.sc_policy.specs.Prelude.{IsPolicyRead}
@@ -117,10 +117,20 @@ pub record IsObjectOutput (section : List ℕ) (bytes text : List ℕ) : Type 0 
   pub is : IsObjectOf program comp object
   pub written : text ≡ object_bytes object
 
--- what `explain` writes: the report, or one text of the chain
-abbrev pub account : (show : Option ℕ) → SourceParts → Explanation → List ℕ
-account None source explanation = explain_text source.program.interfaces explanation
-account (Some links) source explanation = text_after source explanation links
+-- the report of a run, which says who stopped the machine if that is asked for
+abbrev pub report_text : (trapped : Bool) → SourceParts → Explanation → List ℕ
+report_text trapped source explanation =
+    explain_text source.program.interfaces explanation ++
+    (if trapped then trapped_text source.program.interfaces explanation.trapped else [])
+
+-- this report, or one text of the chain
+abbrev pub account_text : (trapped : Bool) → (show : Option ℕ) → SourceParts → Explanation → List ℕ
+account_text trapped None source explanation = report_text trapped source explanation
+account_text trapped (Some links) source explanation = text_after source explanation links
+
+-- what `explain` writes
+abbrev pub account : ExplainOptions → SourceParts → Explanation → List ℕ
+account options source explanation = account_text options.trapped options.show source explanation
 
 -- the machine's trace on the image of a text's program, or on this image, is explained by a chain of texts
 abbrev pub IsExplainedOn : Option ImageParts → SourceParts → RunOptions → Explanation → Type 0
@@ -165,12 +175,12 @@ pub record HasAccountIn (with_image : Bool) (options : RunOptions) (bytes : List
 -- this is the account of it
 pub record IsAccounted (options : ExplainOptions) (bytes text : List ℕ) : Type 0 where
   pub found : HasAccountIn options.image options.run bytes
-  pub written : text ≡ account options.show found.has.source found.has.explanation
+  pub written : text ≡ account options found.has.source found.has.explanation
 
 -- what `judge` writes: the report, and what the policy says of the trace
-abbrev pub judge_text : Policy → SourceParts → Explanation → List ℕ
-judge_text policy source explanation =
-    explain_text source.program.interfaces explanation ++
+abbrev pub judge_text : Policy → (trapped : Bool) → SourceParts → Explanation → List ℕ
+judge_text policy trapped source explanation =
+    report_text trapped source explanation ++
     verdict_text policy.states source.program.interfaces (verdict policy source.program.interfaces explanation)
 
 -- The bytes begin with a policy, the text in those that follow is explained, and this is the report with the policy's
@@ -180,7 +190,7 @@ pub record IsJudged (options : JudgeOptions) (bytes text : List ℕ) : Type 0 wh
   pub read : PolicyRead
   pub is : IsPolicyRead bytes read
   pub found : HasAccountIn options.image options.run (drop read.rest bytes)
-  pub written : text ≡ judge_text read.policy found.has.source found.has.explanation
+  pub written : text ≡ judge_text read.policy options.trapped found.has.source found.has.explanation
   pub committed : (after comp rule : ℕ) (compromised : Bool) →
       verdict read.policy found.has.source.program.interfaces found.has.explanation ≡
       Violated after comp rule compromised →

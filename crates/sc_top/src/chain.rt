@@ -1,8 +1,9 @@
 //! The command that accounts for a run.
 
 ghost use Rattle.sc_base.specs.Prelude.{most_compiled, most_events};
-ghost use Rattle.sc_top.specs.Prelude.{Explain, IsOutput, IsOutputCause, account, comp_of, legal, text_after};
-ghost use Rattle.std.specs.Prelude.{◌≡◌, ◌≤◌, ◌++◌, false, true, length, map, take, None, IfOk, IfErr};
+ghost use Rattle.sc_top.specs.Prelude.{Explain, IsOutput, IsOutputCause, account, comp_of, legal, report_text};
+ghost use Rattle.sc_top.specs.Prelude.{text_after};
+ghost use Rattle.std.specs.Prelude.{◌≡◌, ◌≤◌, ◌++◌, false, true, length, map, take, IfOk, IfErr};
 
 use crate::account::accounted;
 use crate::failure::Failure;
@@ -10,6 +11,7 @@ use sc_base::{OutOfMemory, Text};
 use sc_chain::recomposed_text;
 use sc_core::{Explanation, Link};
 use sc_event::{CompId, CompIds};
+use sc_report::{append_trapped, explain_text};
 use sc_top_words::ExplainOptions;
 use sc_types::SourceText;
 use std::alloc::Global;
@@ -27,39 +29,50 @@ pub(crate) fn explain(
     ensures cause { IfErr result (IsOutputCause (Explain options.now) bytes.now) }
 {
     let found = accounted(alloc, &options.run, options.image, bytes)?;
-    Ok(account(alloc, &found.source, &found.explanation, options.show)?)
+    Ok(account(
+        alloc,
+        options,
+        &found.source,
+        &found.explanation,
+    )?)
 }
 
 // The report, or the text of the chain after `show` links.
 fn account(
     alloc: Global,
+    options: &ExplainOptions,
     source: &SourceText,
     explanation: &Explanation,
-    show: Option<u32>,
 ) -> Result<Text, OutOfMemory>
     requires allowed { legal source.now.program.interfaces explanation.now.trace ≡ true }
     requires few { length explanation.now.trace ≤ most_events }
-    ensures { IfOk result (λ text. text ≡ account show source.now explanation.now) }
+    ensures { IfOk result (λ text. text ≡ account options.now source.now explanation.now) }
 {
-    match show {
-        None => report(alloc, source, explanation),
+    match options.show {
+        None => report(alloc, source, explanation, options.trapped),
         Some(links) => text_after(alloc, source, explanation, links),
     }
 }
 
-/// The machine's trace and stop, the given compartments, and the chain.
+/// The machine's trace and stop, the given compartments, and the chain; and if asked for, who stopped the machine.
 pub(crate) fn report(
     alloc: Global,
     source: &SourceText,
     explanation: &Explanation,
+    trapped: bool,
 ) -> Result<Text, OutOfMemory>
     requires { legal source.now.program.interfaces explanation.now.trace ≡ true }
-    ensures { IfOk result (λ text. text ≡ account None source.now explanation.now) }
+    ensures { IfOk result (λ text. text ≡ report_text trapped source.now explanation.now) }
 {
     let program = source.program();
     // Every program is well typed, so that its main compartment is there.
     let _tree = program.tree();
-    sc_report::explain_text(alloc, program.interfaces(), explanation)
+    let interfaces = program.interfaces();
+    let mut text = explain_text(alloc, interfaces, explanation)?;
+    if trapped {
+        append_trapped(&mut text, interfaces, explanation.trapped)?;
+    }
+    Ok(text)
 }
 
 fn text_after(

@@ -28,21 +28,28 @@ pub(crate) fn judge(alloc: Global, options: &JudgeOptions, bytes: &[u8]) -> Resu
     let found = accounted(alloc, &options.run, options.image, &bytes[read.rest..])?;
     // Every program is well typed, so that each event of the trace has a compartment.
     let _tree = found.source.program().tree();
-    Ok(verdict(alloc, &read.policy, &found.source, &found.explanation)?)
+    Ok(verdict(
+        alloc,
+        options,
+        &read.policy,
+        &found.source,
+        &found.explanation,
+    )?)
 }
 
 // The report, and what the policy says of the trace.
 fn verdict(
     alloc: Global,
+    options: &JudgeOptions,
     policy: &Policy,
     source: &SourceText,
     explanation: &Explanation,
 ) -> Result<Text, OutOfMemory>
     requires allowed { legal source.now.program.interfaces explanation.now.trace ≡ true }
     requires few { length explanation.now.trace ≤ most_events }
-    ensures { IfOk result (λ text. text ≡ judge_text policy.now source.now explanation.now) }
+    ensures { IfOk result (λ text. text ≡ judge_text policy.now options.now.trapped source.now explanation.now) }
 {
-    let mut text = report(alloc, source, explanation)?;
+    let mut text = report(alloc, source, explanation, options.trapped)?;
     let interfaces = source.program().interfaces();
     let verdict = sc_monitor::judge(policy, interfaces, explanation);
     append_verdict(&mut text, policy, interfaces, verdict)?;

@@ -11,5 +11,5 @@ returns-clause-ok c =
     let made = c.in_ok-found.ensures.account in
     record {
       found = made.found;
-      written = c.in_ok-account.ensures ∙ ap₂ (account c.args.options.now.show) (sym made.source) (sym made.explanation);
+      written = c.in_ok-account.ensures ∙ ap₂ (account c.args.options.now) (sym made.source) (sym made.explanation);
     }
