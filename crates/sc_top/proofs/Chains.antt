@@ -16,6 +16,7 @@ use Rattle.sc_parse_read.proofs.Splits.{same_parts, same_preamble}
 use Rattle.sc_top.specs.declared.account.Account.{Account}
 use Rattle.sc_top.proofs.Parts.{one_front, one_rest}
 use Rattle.sc_top.proofs.Rising.{one_rising}
+use Rattle.sc_top.proofs.ChainTexts.{chain_text}
 
 -- THE TEXTS
 
@@ -46,6 +47,8 @@ has_account options image bytes source explanation parts whole explained short =
   whole = whole;
   explanation = explanation;
   explained = explained;
+  texts = chain_text source (map word_of options.inputs) options.steps explanation
+      (chain_from_given source options explanation image explained);
   short = λ links. shorts source options explanation image explained
       (subst (λ (text : List ℕ). length text ≤ 1048576) (sym whole) short) (performers explanation links);
 }

@@ -19,6 +19,7 @@ use Rattle.sc_monitor.specs.declared.verdict.Verdict.{Verdict}
 use Rattle.sc_monitor.specs.declared.verdict.Verdict.TheVariants.{Violated}
 use Rattle.sc_top.specs.Prelude.{report_text}
 use Rattle.sc_report.specs.Verdict.{verdict_text}
+use Rattle.sc_top.proofs.ChainTexts.{reached, same_set}
 use Rattle.sc_top.proofs.Chains.{chain_from_given}
 use Rattle.std.proofs.lemmas.List.Folds.{list_any-append}
 use Rattle.std.specs.List.{list_any}
@@ -70,30 +71,6 @@ performer_known interfaces (Ret from to value) known = known.0
 performer_known interfaces (Out comp value) known = known
 performer_known interfaces (In comp value) known = known
 performer_known interfaces (End comp value) known = known
-
--- THE ORDER OF THE LINKS
-
--- the compartments that perform after the links
-abbrev reached : List ℕ → List Link → List ℕ
-reached comps [] = comps
-reached comps (link ∷ links) = reached (link.comp ∷ comps) links
-
-listed : (comps : List ℕ) (links : List Link) (comp : ℕ) →
-    is_listed (reached comps links) comp ≡ (is_listed comps comp || is_listed (map comp_of links) comp)
-listed comps [] comp = sym (or-false (is_listed comps comp))
-listed comps (link ∷ links) comp =
-    listed (link.comp ∷ comps) links comp ∙
-    swapped (link.comp == comp) (is_listed comps comp) (is_listed (map comp_of links) comp) where
-      swapped : (one two three : Bool) → ((one || two) || three) ≡ (two || (one || three))
-      swapped true true three = refl
-      swapped true false three = refl
-      swapped false two three = refl
-
--- in whatever order, they are the same set
-same_set : (given : List ℕ) (links : List Link) →
-    is_listed (reached given links) ≡ is_listed (given ++ map comp_of links)
-same_set given links = λ i comp.
-    (listed given links comp ∙ sym (list_any-append (λ one. one == comp) given (map comp_of links))) i
 
 -- ALONG THE CHAIN
 

@@ -2,6 +2,7 @@ pub mod Common
 pub mod Answers
 pub mod Asked
 pub mod Causes
+pub mod ChainTexts
 pub mod Chains
 pub mod Committed
 pub mod Executed

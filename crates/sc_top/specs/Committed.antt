@@ -2,7 +2,8 @@
 use Rattle.sc_base.specs.Prelude.{IsPrefix}
 use Rattle.sc_top.specs.Common.{Accepts, Link, ProgramTree, SourceParts, is_listed, performing, recomposed}
 use Rattle.std.specs.Prelude.{◌≡◌, ◌<◌, ℕ, suc, Bool, false, nat_le, List, [], ◌++◌, filter, length, map, take}
-use Rattle.std.specs.Prelude.{slice_index_or}
+use Rattle.std.specs.Prelude.{None, Some, slice_get, slice_index_or}
+use Rattle.sc_chain.specs.Chain.{IsBlamedSo}
 use Rattle.sc_back.specs.Prelude.{new_text}
 use Rattle.sc_core.specs.Prelude.{meaning}
 use Rattle.sc_core.specs.declared.explanation.Explanation.{Explanation}
@@ -18,6 +19,17 @@ performers explanation links = is_listed (explanation.given ++ map comp_of (take
 -- the text of the chain after `links` links
 abbrev pub text_after : SourceParts → Explanation → (links : ℕ) → List ℕ
 text_after source explanation links = recomposed source explanation.trace (performers explanation links)
+
+-- The text of the chain after `links` links is accepted. Its meaning is blamed as the next link says, or is the trace
+-- where no link follows.
+pub record IsChainText (source : SourceParts) (inputs : List ℕ) (steps : ℕ) (explanation : Explanation) (links : ℕ) :
+    Type 0 where
+  pub program : ProgramTree
+  pub accepted : Accepts (text_after source explanation links) program
+  pub blamed : (link : Link) → slice_get explanation.links links ≡ Some link →
+      IsBlamedSo program inputs steps explanation.trace link
+  pub means : slice_get explanation.links links ≡ None →
+      (meaning program inputs steps (length explanation.trace)).trace ≡ explanation.trace
 
 -- the section of a compartment as it was read
 abbrev pub section_read : SourceParts → (comp : ℕ) → List ℕ

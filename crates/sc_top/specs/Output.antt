@@ -28,7 +28,7 @@ use Rattle.sc_monitor.specs.Prelude.{verdict}
 use Rattle.sc_monitor.specs.declared.verdict.Verdict.TheVariants.{Violated}
 use Rattle.sc_object.specs.Prelude.{IsObjectOf, object_bytes}
 use Rattle.sc_object.specs.declared.parts.ObjectParts.{ObjectParts}
-use Rattle.sc_top.specs.Committed.{IsCommitted, text_after}
+use Rattle.sc_top.specs.Committed.{IsChainText, IsCommitted, text_after}
 use Rattle.sc_top.specs.Objects.{HasSection, IsLinked, comp_named}
 use Rattle.sc_top.specs.Tagged.{IsTagged}
 use Rattle.sc_top_words.specs.declared.command.Command.TheVariants as commands
@@ -146,7 +146,9 @@ pub record HasAccount (options : RunOptions) (image : Option ImageParts) (bytes 
   pub whole : source.bytes ≡ bytes
   pub explanation : Explanation
   pub explained : IsExplainedOn image source options explanation
-  -- no text of the chain is longer than `meaning` takes
+  -- each text of the chain is accepted and means what its place in the chain says
+  pub texts : (links : ℕ) → IsChainText source (map word_of options.inputs) options.steps explanation links
+  -- and none is longer than `meaning` takes
   pub short : (links : ℕ) → length (text_after source explanation links) ≤ most_text
 
 -- the trace is that of the image of the text's program
