@@ -5,6 +5,7 @@ use Rattle.sc_chain.proofs.Common.{MachineRun, Ok, Stop, recomposed}
 use Rattle.sc_chain.proofs.Common.{ProgramTree, SourceParts, [], ap, get_or, image_of, is_listed, legal, length}
 use Rattle.sc_chain.proofs.Common.{machine, map, refl, scripted_meaning, subst, suc, sym, true, word_of, ℕ, ℤ, ◌<◌}
 use Rattle.sc_chain.proofs.Common.{◌∷◌, ◌≡◌, ◌≤◌}
+use Rattle.std.specs.Prelude.{None}
 use Rattle.std.specs.List.{AllZip}
 use Rattle.sc_core.specs.declared.explanation.Explanation.{Explanation}
 use Rattle.sc_core_laws.specs.Prelude.{IsSubset}
@@ -51,7 +52,7 @@ module _ (source : SourceParts) (inputs : List ℤ) (steps events : ℕ) (image 
       IsChainWith source (map word_of inputs) steps trace comps links →
       (length source.bytes ≤ 1048576 → (set : CompSet) → length (recomposed source observed set) ≤ 8388608) →
       IsAccountOf source image given (map word_of inputs) steps events
-      (record { trace = observed; stop = stop; given = given; links = links })
+      (record { trace = observed; stop = stop; trapped = None; given = given; links = links })
   accounted observed trace same_trace emits stop stops comps same_comps links chain short = record {
     trace = emits;
     stop = stops;
