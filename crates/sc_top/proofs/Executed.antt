@@ -1,4 +1,6 @@
 -- What `compile` writes is executed as the program is run.
+use Rattle.sc_top.proofs.Common.{Ok}
+use Rattle.sc_top.proofs.Common.{image_of}
 use Rattle.sc_top.proofs.Common.{Accepts, BytesNameOneImage, Compile, HasImage, ImageParts, Interfaces, IsExecuted}
 use Rattle.sc_top.proofs.Common.{IsImage, IsTextOutput, List, ProgramTree, Run, RunOptions, ap, image_interfaces}
 use Rattle.sc_top.proofs.Common.{machine_run, machine_text, refl, subst, sym, ℕ, ◌++◌, ◌∙◌, ◌≡◌}
@@ -49,7 +51,8 @@ module _ (one_program : (text : List ℕ) (program other : ProgramTree) →
       let program : run.program ≡ is.program =
       one_program text run.program is.program run.accepted is.accepted in
       let same : run.image ≡ is.image =
-      one_image is.program run.image is.image (subst (λ p. HasImage p run.image) program (run.compiled refl)) has in
+      one_image is.program run.image is.image
+      (subst (λ p. image_of p ≡ Ok run.image) program (run.compiled refl).compiled) has.compiled in
       record {
         read = image;
         written = run.written ∙ (ap (λ (p : ProgramTree). machine_text p.interfaces options run.image) program ∙

@@ -1,4 +1,6 @@
 -- The objects of all sections of a text are linked to its image.
+use Rattle.sc_top.proofs.Common.{Ok}
+use Rattle.sc_top.proofs.Common.{image_of}
 use Rattle.sc_top.proofs.Common.{Accepts, Bool, Compile, Option, inl, inr, HasImage, ImageParts, IsLinked}
 use Rattle.sc_top.proofs.Common.{IsObjectOutput, IsTextOutput, IsWellFormed, List, None, ProgramTree, Some, [], ap, ap₂}
 use Rattle.sc_top.proofs.Common.{arith, comp_named, concat, false, flat_map, length, length-map, map, refl, slice_get}
@@ -243,8 +245,8 @@ module _ (one_program : (text : List ℕ) (program other : ProgramTree) →
   written_so : (name out : List ℕ) → IsObjectOutput name text out → out ≡ object_bytes (object_named name)
   written_so name out o =
       let program = one_program text o.program is.program o.accepted is.accepted in
-      let its : HasImage o.program o.is.image = record { compiled = o.is.compiled; right = o.is.right } in
-      let same = one_image is.program o.is.image is.image (subst (λ p. HasImage p o.is.image) program its) has in
+      let same = one_image is.program o.is.image is.image
+      (subst (λ p. image_of p ≡ Ok o.is.image) program o.is.compiled) has.compiled in
       let named = subst (λ (p : ProgramTree). comp_named p.interfaces name ≡ Some o.comp) program o.named in
       o.written ∙ ap object_bytes (o.is.is ∙ ap₂ object_of same (sym (ap (λ place. unwrap_or place 0) named)))
 

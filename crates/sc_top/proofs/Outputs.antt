@@ -1,4 +1,6 @@
 -- What comes of accepted texts: outputs and their causes, and that an output is one.
+use Rattle.sc_top.proofs.Common.{Ok}
+use Rattle.sc_top.proofs.Common.{image_of}
 use Rattle.sc_top.proofs.Common.{Accepts, Bool, BytesNameOneImage, Command, Failure, HasImage, ImageParts, IsCompiling}
 use Rattle.sc_top.proofs.Common.{IsExecuted, IsMadeBy, IsOutput, IsOutputCause, IsTextOutput, IsTrue, List, MakeOptions}
 use Rattle.sc_top.proofs.Common.{ProgramTree, RunOptions, [], ap, compiles, false, image_interfaces, machine_text}
@@ -293,10 +295,10 @@ same_output (commands.Tags options range) program one other same = refl
 same_output (commands.Make options) program one other same = refl
 
 -- a program has one image
-pub one_image : (program : ProgramTree) (one other : ImageParts) → HasImage program one → HasImage program other →
-    one ≡ other
+pub one_image : (program : ProgramTree) (one other : ImageParts) → image_of program ≡ Ok one →
+    image_of program ≡ Ok other → one ≡ other
 one_image program one other is known =
-    let same = sym is.compiled ∙ known.compiled in
+    let same = sym is ∙ known in
     cc same
 
 module _
@@ -307,7 +309,8 @@ module _
   one_text command bytes text other is known =
       let program = one_program bytes is.program known.program is.accepted known.accepted in
       let image : IsTrue _ → is.image ≡ known.image =
-      λ c. one_image known.program _ _ (subst (λ p. HasImage p is.image) program (is.compiled c)) (known.compiled c) in
+      λ c. one_image known.program _ _ (subst (λ p. image_of p ≡ Ok is.image) program (is.compiled c).compiled)
+      (known.compiled c).compiled in
       is.written ∙ (ap (λ p. output command p _) program ∙
       (same_output command known.program _ _ image ∙ sym known.written))
 
@@ -334,10 +337,8 @@ module _
       IsObjectOutput section bytes other → text ≡ other
   one_object section bytes text other is known =
       let program = one_program bytes is.program known.program is.accepted known.accepted in
-      let has : HasImage is.program is.is.image = record { compiled = is.is.compiled; right = is.is.right } in
       let image = one_image known.program is.is.image known.is.image
-      (subst (λ p. HasImage p is.is.image) program has)
-      (record { compiled = known.is.compiled; right = known.is.right }) in
+      (subst (λ p. image_of p ≡ Ok is.is.image) program is.is.compiled) known.is.compiled in
       let named = subst (λ (p : ProgramTree). comp_named p.interfaces section ≡ Some is.comp) program is.named in
       let comp = same_some _ is.comp known.comp named known.named in
       is.written ∙ (ap object_bytes (is.is.is ∙ (ap₂ object_of image comp ∙ sym known.is.is)) ∙ sym known.written)

@@ -41,8 +41,7 @@ module _ (agree : TagsAgree) (options : RunOptions) where
       HasImage has.source.program image → IsTaggedRun options has.explanation image
   runs_so text has image is =
       let formed = is.right.well_formed in
-      let same = one_image has.source.program has.explained.image image
-      (record { compiled = has.explained.compiled; right = has.explained.right }) is in
+      let same = one_image has.source.program has.explained.image image has.explained.compiled is.compiled in
       record {
         trace = subst (λ i. (tag_run options None image).state.core.trace ≡ (machine_run options i).state.trace)
             (sym same) (same_trace image formed) ∙ sym has.explained.trace;

@@ -3,6 +3,7 @@ use Rattle.sc_top_words.specs.Words.{most_steps}
 use Rattle.sc_base.specs.Prelude.{most_compiled, most_events, most_text}
 use Rattle.sc_top.specs.Common.{Accepts, Command, Interfaces, IsCompiled, IsExplained, IsImage, IsImageExplained}
 use Rattle.sc_top.specs.Common.{IsButFor, IsSource}
+use Rattle.sc_compile.specs.Image.{HasParts}
 use Rattle.sc_top.specs.Common.{ProgramTree, MachineRun, SourceParts, image_bytes, image_of}
 use Rattle.sc_top.specs.Common.{image_interfaces, machine}
 use Rattle.sc_top.specs.Common.{too_large}
@@ -54,6 +55,8 @@ machine_text names options image = run_text names (machine_run options image).st
 pub record HasImage (program : ProgramTree) (image : ImageParts) : Type 0 where
   pub compiled : image_of program ≡ Ok image
   pub right : IsCompiled program image
+  -- each compartment's part is that of its own section
+  pub parts : HasParts program image
 
 -- the commands that compile
 abbrev pub compiles : Command → Bool
