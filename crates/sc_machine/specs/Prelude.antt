@@ -16,6 +16,7 @@ pub use Rattle.sc_image.specs.Prelude.{refused, reg, on_return, saved_sp, shift_
 pub use Rattle.sc_image.specs.Prelude.{store, store_size, stretch, written}
 unfoldable pub use Rattle.sc_image.specs.Prelude.{are_data, run_by, start_memory, stopped, word_at}
 pub use Rattle.sc_image.specs.declared.parts.ImageParts.{ImageParts}
+pub use Rattle.sc_machine.specs.Calls.{IsTaken}
 pub use Rattle.sc_machine.specs.Hart.{CanRun, HasRoom, IsBacked, IsReady, IsSound, LeavesSound, StaysSound, active_in}
 pub use Rattle.sc_machine.specs.Hart.{comp_in, outcome_of, running, state_in}
 pub use Rattle.sc_registers.specs.Registers.{advanced, at, linked, written_at_next}

@@ -27,6 +27,8 @@ pub record Progress (S : Type 0) : Type 0 where
   pub store : S
   -- why it stopped at last, and `StepsOut` before the first step
   pub stop : Stop
+  -- how many steps the latest call took
+  pub taken : ℕ
 
 -- its state, by the bytes of its store
 abbrev pub state_of : {S : Type 0} → (S → ByteMemory) → Progress S → MachineState

@@ -9,7 +9,7 @@ ghost use Rattle.sc_image.specs.Own.{data_of};
 ghost use Rattle.sc_image.specs.State.{reg, saved_sp, start_memory, zone_of};
 ghost use Rattle.sc_image.specs.Machine.{run, machine, continued};
 ghost use Rattle.sc_machine.specs.Progress.{state_of, run_of};
-ghost use Rattle.sc_machine.specs.Calls.{IsCalled, loaded};
+ghost use Rattle.sc_machine.specs.Calls.{IsCalled, IsTaken, loaded};
 ghost use Rattle.sc_zone.specs.Prelude.{words_at};
 
 use crate::hart::Hart;
@@ -17,9 +17,9 @@ use crate::here::Here;
 use crate::loading::{start_hart, start_memory};
 use crate::own_view::OwnView;
 use crate::program::Program;
-use crate::run::run;
+use crate::run::{Halt, run};
 use sc_base::Stop;
-use sc_event::{CompId, Event};
+use sc_event::{CompId, Event, Trace};
 use sc_image::Image;
 use sc_store::Store;
 use sqlite_items::Items;
@@ -36,7 +36,7 @@ pub struct Machine<S: Store> {
     events: u32,
     hart: Hart,
     memory: S,
-    stop: Stop,
+    halt: Halt,
 }
 
 impl<S: Store> Model for Machine<S> {
@@ -61,7 +61,8 @@ impl<S: Store> Model for Machine<S> {
       input = m.hart.input;
       trace = m.hart.trace.items;
       store = m.memory;
-      stop = m.stop;
+      stop = m.halt.stop;
+      taken = m.halt.steps;
     } };
 
     ghost invariant = { λ m. CanRun m.program m.events m.hart (S.bytes m.memory) };
@@ -116,7 +117,10 @@ impl<S: Store> Machine<S> {
             events,
             hart,
             memory,
-            stop: Stop::StepsOut,
+            halt: Halt {
+                stop: Stop::StepsOut,
+                steps: 0,
+            },
         })
     }
 
@@ -132,13 +136,15 @@ impl<S: Store> Machine<S> {
         ensures any_calls { (earlier : List ℕ) → IsCalled S.bytes self.old earlier → run_of S.bytes self.new ≡
             machine self.old.image self.old.inputs (sum earlier + steps) self.old.events }
         ensures answer { result ≡ self.new.stop }
+        ensures taken { IsTaken self.old.image self.old.inputs self.old.events steps (run_of S.bytes self.old)
+            self.new.taken }
         ensures image { self.new.image ≡ self.old.image }
         ensures inputs { self.new.inputs ≡ self.old.inputs }
         ensures events { self.new.events ≡ self.old.events }
     {
-        if let Stop::StepsOut = self.stop {
+        if let Stop::StepsOut = self.halt.stop {
             let inputs = self.inputs.as_slice();
-            self.stop = run(
+            self.halt = run(
                 &self.program,
                 inputs,
                 self.events,
@@ -146,8 +152,18 @@ impl<S: Store> Machine<S> {
                 &mut self.memory,
                 steps,
             );
+        } else {
+            self.halt.steps = 0;
         }
-        self.stop
+        self.halt.stop
+    }
+
+    /// How many steps the latest call of `run` took, 0 before the first. With a step less it would have answered
+    /// `StepsOut`.
+    pub fn steps_taken(&self) -> u32
+        ensures { result ≡ self.now.taken }
+    {
+        self.halt.steps
     }
 
     /// The events so far, the oldest first.
@@ -155,6 +171,15 @@ impl<S: Store> Machine<S> {
         ensures { result.now ≡ (state_of S.bytes self.now).trace }
     {
         &self.hart.trace
+    }
+
+    /// The same events, without the machine.
+    pub fn into_trace(self) -> Trace
+        ensures { result ≡ (state_of S.bytes self).trace }
+    {
+        let Machine { hart, .. } = self;
+        let Hart { trace, .. } = hart;
+        Trace::from_vec(trace)
     }
 
     /// The compartment whose code runs.

@@ -1,7 +1,8 @@
 //! A run: steps until something stops it.
 #![tactic(auto, unfolding(sc_image::specs::Step::execute_by))]
 
-ghost use Rattle.sc_machine.specs.Prelude.{CanRun, MachineRun, is_ended, run, state_in, stopped, word_of};
+ghost use Rattle.sc_machine.specs.Prelude.{CanRun, IsTaken, MachineRun, is_ended, run, state_in, stopped, word_of};
+ghost use Rattle.sc_base.specs.declared.stop.Stop.TheVariants.{StepsOut};
 ghost use Rattle.std.specs.Prelude.{◌≡◌, map};
 
 use crate::execute::step;
@@ -13,6 +14,13 @@ use sc_event::Event;
 use sc_image::layout::data_start;
 use sc_store::Store;
 
+/// Why a run stopped, and how many steps it took.
+#[derive(Clone, Copy)]
+pub(crate) struct Halt {
+    pub stop: Stop,
+    pub steps: u32,
+}
+
 /// Takes at most `steps` steps, with room for `events` events in the whole trace.
 #[inline(never)]
 pub(crate) fn run<S: Store>(
@@ -22,24 +30,27 @@ pub(crate) fn run<S: Store>(
     hart: &mut Hart,
     memory: &mut S,
     steps: u32,
-) -> Stop
+) -> Halt
     requires ready { CanRun program.now events hart.old (S.bytes memory.old) }
-    ensures run { ◌≡◌ {A = MachineRun} (record { state = state_in (S.bytes memory.new) hart.new; stop = result })
+    ensures run { ◌≡◌ {A = MachineRun} (record { state = state_in (S.bytes memory.new) hart.new; stop = result.stop })
         (run program.now (map word_of inputs.now) events steps (state_in (S.bytes memory.old) hart.old)) }
+    ensures taken { IsTaken program.now (map word_of inputs.now) events steps
+        (record { state = state_in (S.bytes memory.old) hart.old; stop = StepsOut }) result.steps }
     ensures ready { CanRun program.now events hart.new (S.bytes memory.new) }
 {
     let mut here = Here::of(program, hart.active);
     memory.focus(data_start(here.comp()));
     if let Some(stop) = stopped(events, &hart.trace) {
-        return stop;
+        return Halt { stop, steps: 0 };
     }
-    for _ in 0..steps {
+    for taken in 0..steps {
         let loud = match step(&here, inputs, hart, memory) {
             Ok(loud) => loud,
             Err(reason) => {
-                return Stop::Trap {
-                    reason,
-                    pc: hart.core.pc,
+                let pc = hart.core.pc;
+                return Halt {
+                    stop: Stop::Trap { reason, pc },
+                    steps: taken + 1,
                 };
             }
         };
@@ -48,10 +59,16 @@ pub(crate) fn run<S: Store>(
         }
         here.follow(memory, hart.active);
         if let Some(stop) = stopped(events, &hart.trace) {
-            return stop;
+            return Halt {
+                stop,
+                steps: taken + 1,
+            };
         }
     }
-    Stop::StepsOut
+    Halt {
+        stop: Stop::StepsOut,
+        steps,
+    }
 }
 
 /// Why a run with this trace stops before another step, if it does.
