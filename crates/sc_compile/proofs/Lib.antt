@@ -11,12 +11,12 @@ pub mod Linked
 pub mod Lists
 pub mod Names
 pub mod NoTests
+pub mod Origin
 pub mod Parts
 pub mod Refused
 pub mod Reported
 pub mod Results
 pub mod Scripted
 pub mod Stop
-pub mod Why
 pub mod Tac
 pub mod Emitted

@@ -8,7 +8,7 @@ use Rattle.sc_core.specs.declared.run.RunEnd.TheVariants.{Blamed, Ended, EventsO
 use Rattle.sc_core.specs.declared.run.SourceRun.{SourceRun}
 use Rattle.sc_emit_run_laws.specs.Prelude.{StackIsFull}
 use Rattle.sc_image.specs.Prelude.{IsWellFormed, MachineRun}
-use Rattle.sc_compile.specs.Prelude.{FindsWhy, IsBlamedThere, IsWhy, why}
+use Rattle.sc_compile.specs.Prelude.{FindsOrigin, IsBlamedThere, IsOrigin, origin_of}
 use Rattle.sc_compile.proofs.Stop.{blamed_there}
 
 module _ (program : ProgramTree) (image : ImageParts) (formed : IsWellFormed image)
@@ -44,7 +44,7 @@ module _ (program : ProgramTree) (image : ImageParts) (formed : IsWellFormed ima
         subst IsBlamed (sym (ap (λ (r : SourceRun). r.end) there.is) ∙ is) tt
 
     by_end : (end : RunEnd) → longer.end ≡ end → Reason →
-        IsWhy program image set inputs steps events (why false end)
+        IsOrigin program image set inputs steps events (origin_of false end)
     by_end (Blamed comp cause line) is reason = (honest, blamed_so comp cause line is)
     by_end Ended is (inl there) = absurd (clashes Ended is there)
     by_end Ended is (inr full) = (honest, λ blame. subst IsBlamed is blame, full)
@@ -53,15 +53,15 @@ module _ (program : ProgramTree) (image : ImageParts) (formed : IsWellFormed ima
     by_end EventsOut is (inl there) = absurd (clashes EventsOut is there)
     by_end EventsOut is (inr full) = (honest, λ blame. subst IsBlamed is blame, full)
 
-  pub is_why : (scripted_by c_arith program set trace inputs steps (length trace)).trace ≡ trace →
+  pub is_origin : (scripted_by c_arith program set trace inputs steps (length trace)).trace ≡ trace →
       (set its.state.active ≡ false → Reason) →
-      IsWhy program image set inputs steps events (why (set its.state.active) longer.end)
-  is_why has reason = by (set its.state.active) refl where
-    by : (b : Bool) → set its.state.active ≡ b → IsWhy program image set inputs steps events (why b longer.end)
+      IsOrigin program image set inputs steps events (origin_of (set its.state.active) longer.end)
+  is_origin has reason = by (set its.state.active) refl where
+    by : (b : Bool) → set its.state.active ≡ b → IsOrigin program image set inputs steps events (origin_of b longer.end)
     by true replaced = replaced
     by false honest = by_end has honest longer.end refl (reason honest)
 
-pub finds_why : FindsWhy
-finds_why program image given formed robust inputs steps events set larger words traps has =
-    is_why program image formed robust.interfaces.main set inputs steps events has
+pub finds_origin : FindsOrigin
+finds_origin program image given formed robust inputs steps events set larger words traps has =
+    is_origin program image formed robust.interfaces.main set inputs steps events has
     (λ honest. robust.trapped_outside inputs steps events set larger words traps honest has)

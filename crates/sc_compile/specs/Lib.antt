@@ -4,7 +4,7 @@ pub mod Compiled
 pub mod Counting
 pub mod Globals
 pub mod Image
+pub mod Origin
 pub mod Passes
 pub mod Sizes
 pub mod Stop
-pub mod Why

@@ -1,5 +1,6 @@
 -- What this crate's contracts, its proofs and the crates above cite, passed on from one place. Declares nothing.
 pub use Rattle.sc_core.specs.Prelude.{IsWellTyped, cells_of, frame_bound, nodes, total, variables}
+pub use Rattle.sc_emit_run_laws.specs.Prelude.{IsBlamed, IsTrap}
 pub use Rattle.sc_compile.specs.Compiled.{EmitsOrIsBlamed, ForwardSimulation, HasFewBranches, HasNoTests, IsCompiled}
 pub use Rattle.sc_compile.specs.Compiled.{IsRobust, program_nodes, test_word}
 pub use Rattle.sc_compile.specs.Counting.{IsCounted, IsCountedFunction, cells_in}
@@ -10,6 +11,6 @@ pub use Rattle.sc_compile.specs.Image.{unless_large}
 pub use Rattle.sc_compile.specs.Passes.{AreEmitted, CanBeCompiled, EachEmits, EmitsAll, EmitsFrom, EmitsSo, Fits}
 pub use Rattle.sc_compile.specs.Passes.{code_from}
 pub use Rattle.sc_compile.specs.Stop.{EndsByEvent, IsBlamedThere, TrapsOutside, TrapsWhereBlamed}
-pub use Rattle.sc_compile.specs.Why.{Blame, FindsWhy, FullStack, IsWhy, Replaced, Why, why}
+pub use Rattle.sc_compile.specs.Origin.{FindsOrigin, IsOrigin, origin_of}
 pub use Rattle.sc_compile.specs.Sizes.{above, code_size, data_size, faults_from, first, found_in, frame_bytes}
 pub use Rattle.sc_compile.specs.Sizes.{large_code, large_data, large_frame, large_frames, too_large}

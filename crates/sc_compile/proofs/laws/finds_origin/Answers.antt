@@ -1,5 +1,5 @@
-use Rattle.sc_compile.proofs.Why.{finds_why}
-use Rattle.sc_compile.proofs.laws.finds_why.Goals as goal
+use Rattle.sc_compile.proofs.Origin.{finds_origin}
+use Rattle.sc_compile.proofs.laws.finds_origin.Goals as goal
 
 pub returns : goal.returns
-returns c = finds_why
+returns c = finds_origin
