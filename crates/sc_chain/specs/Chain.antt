@@ -11,6 +11,7 @@ use Rattle.sc_image.specs.Prelude.{AreGiven, machine}
 use Rattle.std.specs.Prelude.{◌≡◌, ◌↔◌, ℕ, suc, ◌<◌, ◌≤◌, Bool, true, false, List, [], ◌∷◌, length, take, Ok}
 use Rattle.sc_image.specs.declared.parts.ImageParts.{ImageParts}
 use Rattle.sc_chain.specs.Recompose.{performing_text, recomposed}
+use Rattle.sc_chain.specs.Trapped.{IsTrappedOf, performing_comps}
 use Rattle.sc_core.specs.declared.explanation.Explanation.{Explanation}
 
 -- The meaning of a program, with as many turns as the machine had steps and as many events as it emitted, is blamed so,
@@ -80,12 +81,13 @@ module _ (source : SourceParts) (inputs : List ℕ) (steps : ℕ) (trace : List 
         MeansTrace set ↔ Includes set links
 
 -- The account of a run of an image of which these compartments are given: the trace and the stop are the machine's, and
--- the links are a chain for them.
+-- the links are a chain for them. Where the stop is a trap, it names who stands there and why, by the chain's last text.
 pub record IsAccountOf (source : SourceParts) (image : ImageParts) (comps : List ℕ) (inputs : List ℕ)
     (steps events : ℕ) (explanation : Explanation) : Type 0 where
   pub trace : explanation.trace ≡ (machine image inputs steps events).state.trace
   pub stop : explanation.stop ≡ (machine image inputs steps events).stop
   pub given : explanation.given ≡ comps
+  pub trapped : IsTrappedOf source image inputs steps events (performing_comps comps explanation.links) explanation.trapped
   pub chain : IsChainWith source inputs steps explanation.trace comps explanation.links
   -- where the program's text isn't too long to be compiled, no text in which compartments perform is too long to be
   -- read
@@ -101,8 +103,8 @@ pub record IsImageExplained (source : SourceParts) (image : ImageParts) (inputs 
   pub differ : AreGiven own image explanation.given
   pub account : IsAccountOf source image explanation.given inputs steps events explanation
 
--- the trace and the stop are those of the machine on the program's image, which does what the program means, and the
--- links are a chain for them
+-- the trace and the stop are those of the machine on the program's image, which does what the program means, the links
+-- are a chain for them, and a trap has its reason
 pub record IsExplained (source : SourceParts) (inputs : List ℕ) (steps events : ℕ) (explanation : Explanation) :
     Type 0 where
   pub image : ImageParts
@@ -111,6 +113,7 @@ pub record IsExplained (source : SourceParts) (inputs : List ℕ) (steps events 
   pub trace : explanation.trace ≡ (machine image inputs steps events).state.trace
   pub stop : explanation.stop ≡ (machine image inputs steps events).stop
   pub nobody_given : explanation.given ≡ []
+  pub trapped : IsTrappedOf source image inputs steps events (performing_comps [] explanation.links) explanation.trapped
   pub chain : IsChain source inputs steps explanation.trace explanation.links
   -- where the program's text isn't too long to be compiled, no text in which compartments perform is too long to be
   -- read

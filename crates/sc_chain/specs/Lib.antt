@@ -3,6 +3,8 @@ pub mod Prelude
 pub mod Recompose
 pub mod Replaced
 pub mod Sections
+pub mod Trapped
 pub mod Chain
 pub mod Faults
 pub mod Following
+pub mod Observed

@@ -5,6 +5,8 @@ pub use Rattle.sc_chain.specs.Chain.{HasProgram, Includes, IsAccountOf, IsChain,
 pub use Rattle.sc_chain.specs.Chain.{IsExplained, IsImageExplained, IsNext, MeansTrace}
 pub use Rattle.sc_chain.specs.Faults.{IsAnotherProgram, IsFault, IsImageFault}
 pub use Rattle.sc_chain.specs.Following.{IsNextLink, IsNextOf}
+pub use Rattle.sc_chain.specs.Observed.{IsObserved, trapped_in}
 pub use Rattle.sc_chain.specs.Recompose.{joined_text, performing, performing_text, recomposed, text_for}
 pub use Rattle.sc_chain.specs.Replaced.{IsReplaced, IsScripted}
 pub use Rattle.sc_chain.specs.Sections.{replacement_of, section_at}
+pub use Rattle.sc_chain.specs.Trapped.{IsTrappedOf, IsTrappedSo, performing_comps}

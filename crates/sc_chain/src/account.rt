@@ -2,19 +2,19 @@
 
 ghost use Rattle.sc_base.specs.Prelude.{most_events};
 ghost use Rattle.sc_chain.specs.Prelude.{IsAccountOf, IsChainWith, IsExplained, IsFault, IsImageExplained};
-ghost use Rattle.sc_chain.specs.Prelude.{IsImageFault, IsNextOf, is_listed, legal};
+ghost use Rattle.sc_chain.specs.Prelude.{IsImageFault, IsNextOf, IsObserved, is_listed, legal, performing_comps};
+ghost use Rattle.sc_chain.specs.Prelude.{trapped_in};
 ghost use Rattle.sc_core_laws.specs.Prelude.{IsSubset};
 ghost use Rattle.sc_word.specs.Prelude.{word_of};
 ghost use Rattle.sc_core.specs.Prelude.{scripted_meaning};
-ghost use Rattle.sc_image.specs.Prelude.{machine};
 ghost use Rattle.sc_compile.specs.Prelude.{EmitsOrIsBlamed, IsRobust};
 ghost use Rattle.std.specs.Prelude.{◌≡◌, ◌<◌, ◌≤◌, ℕ, Bool, true, length, map, All, IfOk, IfErr};
 
 use crate::fault::{ExplainFault, ImageFault};
 use crate::replacing::{have_words, performing_text, replaced};
 use sc_base::{OutOfMemory, Stop};
-use sc_compile::{CompileFault, compile};
-use sc_core::{Explanation, Link, Links, RunEnd, SourceRun};
+use sc_compile::{CompileFault, compile, finds_origin};
+use sc_core::{Explanation, Link, Links, RunEnd, SourceRun, TrapOrigin, Trapped};
 use sc_event::{CompId, CompIds, Event, Interfaces, Trace};
 use sc_image::{Image, given_in};
 use sc_machine::{LoadFault, Machine};
@@ -23,65 +23,20 @@ use sc_store::PagedStore;
 use sc_types::{SourceText, one_program};
 use std::alloc::Global;
 
-// How many steps and events a run of the machine may have.
+// How many steps and events a run of the machine may have, or how many turns and events one of the meaning.
 #[derive(Clone, Copy)]
 struct Limits {
     steps: u32,
     events: u32,
 }
 
-// The trace of a run of the machine, and why it stopped.
+// A run of the machine: its trace, why it stopped, where it stands, and how many steps it took.
 #[derive(Drop)]
 struct MachineRun {
     trace: Trace,
     stop: Stop,
-}
-
-// The same event again.
-fn copied(event: &Event) -> Event
-    ensures { result ≡ event.now }
-{
-    match event {
-        Event::Call {
-            from,
-            to,
-            index,
-            args,
-        } => Event::Call {
-            from: *from,
-            to: *to,
-            index: *index,
-            args: args.copied(),
-        },
-        Event::Ret { from, to, value } => Event::Ret {
-            from: *from,
-            to: *to,
-            value: *value,
-        },
-        Event::Out { comp, value } => Event::Out {
-            comp: *comp,
-            value: *value,
-        },
-        Event::In { comp, value } => Event::In {
-            comp: *comp,
-            value: *value,
-        },
-        Event::End { comp, value } => Event::End {
-            comp: *comp,
-            value: *value,
-        },
-    }
-}
-
-// The same events again.
-fn copied_trace(alloc: Global, events: &[Event]) -> Result<Trace, OutOfMemory>
-    ensures { IfOk result (λ trace. trace ≡ events.now) }
-{
-    let mut trace = Trace::new(alloc);
-    for event in events {
-        trace.push(copied(event))?;
-    }
-    Ok(trace)
+    active: CompId,
+    taken: u32,
 }
 
 // The same compartments again.
@@ -95,7 +50,7 @@ fn copied_comps(alloc: Global, comps: &[CompId]) -> Result<CompIds, OutOfMemory>
     Ok(copy)
 }
 
-// The machine's trace on an image in at most `steps` steps and `events` events.
+// The machine's run on an image in at most `steps` steps and `events` events.
 fn run_image(
     alloc: Global,
     image: Image,
@@ -103,11 +58,7 @@ fn run_image(
     steps: u32,
     events: u32,
 ) -> Result<MachineRun, OutOfMemory>
-    ensures trace { IfOk result (λ observed. observed.trace ≡
-        (machine image (map word_of inputs.now) steps events).state.trace) }
-    ensures stop { IfOk result (λ observed. observed.stop ≡
-        (machine image (map word_of inputs.now) steps events).stop) }
-    ensures few { IfOk result (λ observed. length observed.trace ≤ events) }
+    ensures { IfOk result (IsObserved image (map word_of inputs.now) steps events) }
 {
     // An image is well formed.
     let _parts = image.parts();
@@ -115,8 +66,14 @@ fn run_image(
         |LoadFault::OutOfMemory(_)| OutOfMemory,
     )?;
     let stop = machine.run(steps);
-    let trace = copied_trace(alloc, machine.trace())?;
-    Ok(MachineRun { trace, stop })
+    let active = machine.active();
+    let taken = machine.steps_taken();
+    Ok(MachineRun {
+        trace: machine.into_trace(),
+        stop,
+        active,
+        taken,
+    })
 }
 
 // The link of a run that is blamed before the end of the trace.
@@ -145,28 +102,28 @@ fn next_link(
     }))
 }
 
-// The run of the text in which the given compartments perform their parts of a trace. Where nobody is given it is the
-// source's own, which isn't read again.
-fn first_run(
+// The run of the text in which these compartments perform their parts of a trace. Where nobody does it is the source's
+// own, which isn't read again.
+fn performed_run(
     alloc: Global,
     source: &SourceText,
-    given: &[CompId],
-    inputs: &[i32],
-    steps: u32,
+    comps: &[CompId],
     trace: &[Event],
+    inputs: &[i32],
+    limits: Limits,
 ) -> Result<SourceRun, OutOfMemory>
     requires allowed { legal source.now.program.interfaces trace.now ≡ true }
     requires few { length trace.now ≤ most_events }
-    requires known { All (λ comp. comp < length source.now.program.interfaces.comps) given.now }
-    ensures { IfOk result (λ run. run ≡ scripted_meaning source.now.program (is_listed given.now) trace.now
-        (map word_of inputs.now) steps (length trace.now)) }
+    requires known { All (λ comp. comp < length source.now.program.interfaces.comps) comps.now }
+    ensures { IfOk result (λ run. run ≡ scripted_meaning source.now.program (is_listed comps.now) trace.now
+        (map word_of inputs.now) limits.steps limits.events) }
 {
-    let events = trace.len() as u32;
-    if given.is_empty() {
+    let Limits { steps, events } = limits;
+    if comps.is_empty() {
         let run = run_source(alloc, source.program(), inputs, steps, events)?;
         return Ok(run);
     }
-    let text = replaced(alloc, source, trace, given)?;
+    let text = replaced(alloc, source, trace, comps)?;
     let run = run_source(alloc, text.program(), inputs, steps, events)?;
     Ok(run)
 }
@@ -192,18 +149,65 @@ fn chain(
     one_program();
     have_words(trace);
     let events = trace.len() as u32;
+    let limits = Limits { steps, events };
     let program = source.program();
     let tree = program.tree();
     let mut links = Links::new(alloc);
     let mut comps = copied_comps(alloc, given)?;
-    let mut run = first_run(alloc, source, given, inputs, steps, trace)?;
+    let mut run = performed_run(alloc, source, given, trace, inputs, limits)?;
     while let Some(link) = next_link(alloc, &tree.interfaces, trace, &run)? {
         comps.push(link.comp)?;
         links.push(link)?;
-        let text = replaced(alloc, source, trace, comps.as_slice())?;
-        run = run_source(alloc, text.program(), inputs, steps, events)?;
+        run = performed_run(alloc, source, comps.as_slice(), trace, inputs, limits)?;
     }
     Ok(links)
+}
+
+// Those that perform in the last text of a chain.
+fn performing_comps(alloc: Global, given: &[CompId], links: &[Link]) -> Result<CompIds, OutOfMemory>
+    ensures { IfOk result (λ comps. comps ≡ performing_comps given.now links.now) }
+{
+    let mut comps = copied_comps(alloc, given)?;
+    for link in links {
+        comps.push(link.comp)?;
+    }
+    Ok(comps)
+}
+
+// Who stands where a trap stopped the machine, and why, by the text in which these compartments perform. Its meaning has
+// no more turns than the machine took steps, since a full stack is mostly a recursion without end.
+fn trapped(
+    alloc: Global,
+    source: &SourceText,
+    comps: &[CompId],
+    inputs: &[i32],
+    observed: &MachineRun,
+) -> Result<Option<Trapped>, OutOfMemory>
+    requires allowed { legal source.now.program.interfaces observed.now.trace ≡ true }
+    requires few { length observed.now.trace ≤ most_events }
+    requires known { All (λ comp. comp < length source.now.program.interfaces.comps) comps.now }
+    ensures { IfOk result (λ trapped. trapped ≡ trapped_in source.now.program (is_listed comps.now)
+        (map word_of inputs.now) observed.now) }
+{
+    let Stop::Trap { .. } = observed.stop else {
+        return Ok(None);
+    };
+    let comp = observed.active;
+    if comps.iter().any(|one| *one == comp) {
+        let origin = TrapOrigin::Replaced;
+        return Ok(Some(Trapped { comp, origin }));
+    }
+    let limits = Limits {
+        steps: observed.taken,
+        events: observed.trace.len() as u32 + 1,
+    };
+    let trace = observed.trace.as_slice();
+    let run = performed_run(alloc, source, comps, trace, inputs, limits)?;
+    let origin = match run.end {
+        RunEnd::Blamed { cause, line, .. } => TrapOrigin::Blamed { cause, line },
+        _ => TrapOrigin::FullStack,
+    };
+    Ok(Some(Trapped { comp, origin }))
 }
 
 // The account of a run of an image that does what the program means, but for the given compartments.
@@ -226,6 +230,8 @@ fn account(
     let observed = run_image(alloc, image, inputs, limits.steps, limits.events)?;
     let emitted = observed.trace.as_slice();
     have_words(emitted);
+    one_program();
+    finds_origin();
     source.program();
     let links = chain(
         alloc,
@@ -235,18 +241,20 @@ fn account(
         limits.steps,
         emitted,
     )?;
-    let MachineRun { trace, stop } = observed;
+    let comps = performing_comps(alloc, given.as_slice(), links.as_slice())?;
+    let trapped = trapped(alloc, source, comps.as_slice(), inputs, &observed)?;
+    let MachineRun { trace, stop, .. } = observed;
     Ok(Explanation {
         trace,
         stop,
-        trapped: None,
+        trapped,
         given,
         links,
     })
 }
 
 /// The machine's trace on the image of a program in at most `steps` steps and `events` events, and the chain of texts
-/// that accounts for it.
+/// that accounts for it. Where a trap stops the machine, the account says in which compartment and why.
 pub fn explain(
     alloc: Global,
     source: &SourceText,
@@ -276,7 +284,7 @@ pub fn explain(
 
 /// The machine's trace on an image that is the program's own but for given compartments, whose code may be anybody's, in
 /// at most `steps` steps and `events` events. The chain of texts that accounts for it begins with the text in which the
-/// given compartments perform their parts of the trace.
+/// given compartments perform their parts of the trace, and it says of a trap what `explain` does.
 pub fn explain_image(
     alloc: Global,
     source: &SourceText,
