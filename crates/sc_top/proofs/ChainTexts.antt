@@ -1,6 +1,6 @@
 -- The texts of a chain: what each of them means.
 use Rattle.sc_top.proofs.Common.{Accepts, Bool, Explanation, IsChainFrom, Link, List, None, Option, Some, SourceParts, []}
-use Rattle.sc_top.proofs.Common.{absurd, comp_of, false, is_listed, length, map, meaning, none-some, or-false}
+use Rattle.sc_top.proofs.Common.{comp_of, false, is_listed, length, map, meaning, none-some, or-false}
 use Rattle.sc_top.proofs.Common.{recomposed, refl, slice_get, subst, suc, sym, take, true, zero, ℕ, ◌++◌, ◌==◌, ◌||◌}
 use Rattle.sc_top.proofs.Common.{◌∙◌, ◌∷◌, ◌≡◌}
 use Rattle.sc_event.specs.declared.event.Event.{Event}
