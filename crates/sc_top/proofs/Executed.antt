@@ -1,9 +1,8 @@
 -- What `compile` writes is executed as the program is run.
-use Rattle.sc_top.proofs.Common.{Ok}
-use Rattle.sc_top.proofs.Common.{image_of}
 use Rattle.sc_top.proofs.Common.{Accepts, BytesNameOneImage, Compile, HasImage, ImageParts, Interfaces, IsExecuted}
 use Rattle.sc_top.proofs.Common.{IsImage, IsTextOutput, List, ProgramTree, Run, RunOptions, ap, image_interfaces}
 use Rattle.sc_top.proofs.Common.{machine_run, machine_text, refl, subst, sym, ℕ, ◌++◌, ◌∙◌, ◌≡◌}
+use Rattle.sc_top.proofs.Common.{Ok, image_of}
 use Rattle.sc_image.proofs.Whole.{are_written}
 use Rattle.sc_image.specs.Prelude.{AreBytesOf}
 use Rattle.sc_compile.proofs.Reported.{same_lines}

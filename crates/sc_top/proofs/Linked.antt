@@ -1,10 +1,9 @@
 -- The objects of all sections of a text are linked to its image.
-use Rattle.sc_top.proofs.Common.{Ok}
-use Rattle.sc_top.proofs.Common.{image_of}
 use Rattle.sc_top.proofs.Common.{Accepts, Bool, Compile, Option, inl, inr, HasImage, ImageParts, IsLinked}
 use Rattle.sc_top.proofs.Common.{IsObjectOutput, IsTextOutput, IsWellFormed, List, None, ProgramTree, Some, [], ap, ap₂}
 use Rattle.sc_top.proofs.Common.{arith, comp_named, concat, false, flat_map, length, length-map, map, refl, slice_get}
 use Rattle.sc_top.proofs.Common.{subst, suc, sym, true, zero, ℕ, ◌++◌, ◌+◌, ◌<◌, ◌==◌, ◌∙◌, ◌∷◌, ◌≡◌, ◌≤◌, option_map}
+use Rattle.sc_top.proofs.Common.{Ok, image_of}
 use Rattle.sc_base.proofs.Lists.{all_at, all_by, is_there, position_of_only}
 use Rattle.sc_base.proofs.Texts.{bytes_eq_self, same_text}
 use Rattle.sc_event.specs.declared.interface.Interface.{Interface}

@@ -1,6 +1,4 @@
 -- What comes of accepted texts: outputs and their causes, and that an output is one.
-use Rattle.sc_top.proofs.Common.{Ok}
-use Rattle.sc_top.proofs.Common.{image_of}
 use Rattle.sc_top.proofs.Common.{Accepts, Bool, BytesNameOneImage, Command, Failure, HasImage, ImageParts, IsCompiling}
 use Rattle.sc_top.proofs.Common.{IsExecuted, IsMadeBy, IsOutput, IsOutputCause, IsTextOutput, IsTrue, List, MakeOptions}
 use Rattle.sc_top.proofs.Common.{ProgramTree, RunOptions, [], ap, compiles, false, image_interfaces, machine_text}
@@ -13,6 +11,7 @@ use Rattle.sc_top.specs.Large.{large_in}
 use Rattle.sc_top.specs.declared.status.BadJoin as join
 use Rattle.sc_top.proofs.Common.{refl, subst, sym, true, ℕ, ◌∙◌, ◌≡◌, HasSection, IsLinked, IsObjectOutput, None}
 use Rattle.sc_top.proofs.Common.{Option, Some, ap₂, comp_named, none-some, section_of}
+use Rattle.sc_top.proofs.Common.{Ok, image_of}
 use Rattle.sc_object.specs.Prelude.{BytesNameOneList, IsJoined, join_as, object_bytes, object_of}
 use Rattle.sc_image.specs.Prelude.{image_bytes}
 use Rattle.sc_top_words.specs.declared.command.Command.TheVariants as commands
