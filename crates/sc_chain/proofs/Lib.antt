@@ -7,6 +7,8 @@ mod ChainTrace
 mod ChainTexts
 pub mod Joined
 mod Lengths
+pub mod OwnImages
 pub mod Recomposed
 pub mod Rows
+pub mod Safety
 pub mod Words

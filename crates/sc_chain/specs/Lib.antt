@@ -8,3 +8,5 @@ pub mod Chain
 pub mod Faults
 pub mod Following
 pub mod Observed
+pub mod Laws
+pub mod Safety

@@ -4,6 +4,8 @@ pub use Rattle.sc_types.specs.Prelude.{Accepts, IsSource}
 pub use Rattle.sc_chain.specs.Chain.{HasProgram, Includes, IsAccountOf, IsChain, IsChainFrom, IsChainWith}
 pub use Rattle.sc_chain.specs.Chain.{IsExplained, IsImageExplained, IsNext, MeansTrace}
 pub use Rattle.sc_chain.specs.Faults.{IsAnotherProgram, IsFault, IsImageFault}
+pub use Rattle.sc_chain.specs.Laws.{OwnImagesAreExplained}
+pub use Rattle.sc_chain.specs.Safety.{RobustSafety}
 pub use Rattle.sc_chain.specs.Following.{IsNextLink, IsNextOf}
 pub use Rattle.sc_chain.specs.Observed.{IsObserved, trapped_in}
 pub use Rattle.sc_chain.specs.Recompose.{joined_text, performing, performing_text, recomposed, text_for}

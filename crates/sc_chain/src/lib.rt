@@ -5,9 +5,11 @@
 mod account;
 mod composed;
 mod fault;
+mod laws;
 mod replacing;
 
 pub use account::{explain, explain_image};
 pub use composed::{Replacement, recompose};
 pub use fault::{ExplainFault, ImageFault};
+pub use laws::{own_images_are_explained, robust_safety};
 pub use replacing::{recomposed_text, replaced};

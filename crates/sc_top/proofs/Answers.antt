@@ -193,10 +193,15 @@ made c t s says none calm = go s says where
   go (status.BadPolicy line) h = never (status.BadPolicy line) h
   go status.Differs h = never status.Differs h
 
+pub image_short : (bytes : List ℕ) → IsImage bytes → length bytes ≤ 66060288
+image_short bytes is =
+    let are = is.bytes_are in
+    subst (λ b. length b ≤ 66060288) (sym are.are) (image_is_short are.version is.image is.well_formed)
+
 pub image_within : (bytes : List ℕ) → IsImage bytes → length bytes ≤ 67108864
 image_within bytes is =
-    let are = is.bytes_are in
-    subst (λ b. length b ≤ 67108864) (sym are.are) (image_is_short are.version is.image is.well_formed)
+    let short = image_short bytes is in
+    omega (arith, short)
 
 -- within the limit, bytes are not too long
 not_both : (limit : Option ℕ) (text : List ℕ) (most : ℕ) → IsWithinLimit limit text →

@@ -88,8 +88,9 @@ comp_is_short image c comp is =
     (imports_are_short comp.imports is.few_imports) (code_is_short comp.code is.short_code)
     (globals_are_short comp.globals is.short_globals))
 
+-- so that a text of 1,048,576 bytes after it is within the limit, too
 pub image_is_short : (version : ℕ) (image : ImageParts) → IsWellFormed image →
-    length (bytes_in_version version image) ≤ 67108864
+    length (bytes_in_version version image) ≤ 66060288
 image_is_short version image formed =
     let few = formed.few_comps in
     let comps = many comp_bytes 2000000 (λ n. 2000000 * n) (λ n. omega arith) image.comps

@@ -1,4 +1,5 @@
 pub mod Common
+pub mod Accounts
 pub mod Answers
 pub mod Asked
 pub mod Causes

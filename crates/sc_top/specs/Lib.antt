@@ -1,5 +1,6 @@
 pub mod Common
 pub mod Prelude
+pub mod Accounts
 pub mod Answer
 pub mod Command
 pub mod Committed

@@ -1,14 +1,16 @@
 //! What holds of every text.
 
 ghost use Rattle.sc_base.specs.Prelude.{most_image};
-ghost use Rattle.sc_top.specs.Prelude.{Command, CompiledImagesRun, ExplainedAreTagged, IsAnswer, IsOutput};
+ghost use Rattle.sc_top.specs.Prelude.{AccountsRunAsExec, Command, CompiledImagesAreExplained, CompiledImagesRun};
+ghost use Rattle.sc_top.specs.Prelude.{ExplainedAreTagged, IsAnswer, IsOutput, LinkedImagesAreExplained};
 ghost use Rattle.sc_top.specs.Prelude.{LinkingIsCompiling, SameAnswer, TagsRunAsExec};
 ghost use Rattle.sc_image.specs.Prelude.{IsImage};
 ghost use Rattle.std.specs.Prelude.{◌≡◌, ◌≤◌, ℕ, List, length};
 ghost use Rattle.sc_top.specs.declared.status.Status.{Status};
 
+use sc_chain::own_images_are_explained;
 use sc_image::one_image;
-use sc_object::{bytes_name_one_list, link_is_compile, one_first_bad};
+use sc_object::{bytes_name_one_list, joins_but_for, link_is_compile, one_first_bad};
 use sc_policy::{one_policy, policy_or_bad};
 use sc_tags::tags_agree;
 use sc_types::{accepted_or_refused, one_phase, one_program};
@@ -50,6 +52,27 @@ pub fn compiled_images_run()
 {
     one_program();
     one_image();
+}
+
+/// What `exec` writes for an image begins the report of `explain --image` on it: the trace and the stop are the same.
+pub fn accounts_run_as_exec()
+    ensures { AccountsRunAsExec }
+{}
+
+/// What `link` writes for objects of which some are anybody's, in place of the program's own, is explained.
+pub fn linked_images_are_explained()
+    ensures { LinkedImagesAreExplained }
+{
+    one_program();
+    joins_but_for();
+}
+
+/// What `compile` writes for a text is explained, with the text after it, as the text is.
+pub fn compiled_images_are_explained()
+    ensures { CompiledImagesAreExplained }
+{
+    one_program();
+    own_images_are_explained();
 }
 
 /// What `object` writes for all sections of a text is good input of `link`, which writes for it what `compile` writes
