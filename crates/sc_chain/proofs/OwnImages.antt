@@ -7,6 +7,7 @@ use Rattle.std.proofs.Common.{arith, eq-eqb}
 use Rattle.sc_chain.proofs.ChainTrace.{own_explained}
 use Rattle.sc_chain.specs.Chain.{IsChain, IsImageExplained, MeansTrace}
 use Rattle.sc_chain.specs.Laws.{OwnImagesAreExplained}
+use Rattle.sc_chain.specs.Trapped.{IsTrappedOf, performing_comps}
 use Rattle.sc_compile.specs.declared.fault.CompileFault.{CompileFault}
 use Rattle.sc_core.specs.declared.explanation.Explanation.{Explanation}
 use Rattle.sc_core_laws.proofs.Blames.{all_outside}
@@ -95,6 +96,8 @@ module _ (one_program : (text : List ℕ) (program other : ProgramTree) →
             (record {
               trace = subst (λ i. explanation.trace ≡ (machine i inputs steps events).state.trace) same is.trace;
               stop = subst (λ i. explanation.stop ≡ (machine i inputs steps events).stop) same is.stop;
+              trapped = subst (λ i. IsTrappedOf source i inputs steps events (performing_comps [] explanation.links)
+                  explanation.trapped) same is.trapped;
               given = is.nobody_given;
               chain = chain_with_nobody source inputs steps explanation.trace one_program is_source explanation.links
                   is.chain;

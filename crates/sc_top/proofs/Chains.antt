@@ -17,6 +17,8 @@ use Rattle.sc_top.specs.declared.account.Account.{Account}
 use Rattle.sc_top.proofs.Parts.{one_front, one_rest}
 use Rattle.sc_top.proofs.Rising.{one_rising}
 use Rattle.sc_top.proofs.ChainTexts.{chain_text}
+use Rattle.sc_chain.proofs.Trapped.{one_trapped}
+use Rattle.sc_chain.specs.Prelude.{IsTrappedOf, performing_comps}
 
 -- THE TEXTS
 
@@ -209,6 +211,7 @@ module _
   one_explained source inputs steps events explanation other is known = λ i. record {
     trace = trace i;
     stop = stop i;
+    trapped = trapped i;
     given = given i;
     links = links i;
   }
@@ -234,12 +237,22 @@ module _
           (subst (λ (t : List Event). IsChainFrom source inputs steps t [] 0 other.links) (sym trace)
           known.chain.chain)
 
+      trapped : explanation.trapped ≡ other.trapped
+      trapped =
+          one_trapped source known.image inputs steps events (performing_comps [] other.links) explanation.trapped
+          other.trapped
+          (subst (λ (ls : List Link). IsTrappedOf source known.image inputs steps events (performing_comps [] ls)
+          explanation.trapped) links
+          (subst (λ (i : ImageParts). IsTrappedOf source i inputs steps events (performing_comps [] explanation.links)
+          explanation.trapped) image is.trapped)) known.trapped
+
   one_image_explained : (source : SourceParts) (image : ImageParts) (inputs : List ℕ) (steps events : ℕ)
       (explanation other : Explanation) → IsImageExplained source image inputs steps events explanation →
       IsImageExplained source image inputs steps events other → explanation ≡ other
   one_image_explained source image inputs steps events explanation other is known = λ i. record {
     trace = trace i;
     stop = stop i;
+    trapped = trapped i;
     given = given i;
     links = links i;
   }
@@ -271,6 +284,15 @@ module _
           (subst (λ (g : List ℕ). IsChainFrom source inputs steps explanation.trace g 0 other.links) (sym given)
           (subst (λ (t : List Event). IsChainFrom source inputs steps t other.given 0 other.links) (sym trace)
           known.account.chain.chain))
+
+      trapped : explanation.trapped ≡ other.trapped
+      trapped =
+          one_trapped source image inputs steps events (performing_comps other.given other.links) explanation.trapped
+          other.trapped
+          (subst (λ (ls : List Link). IsTrappedOf source image inputs steps events (performing_comps other.given ls)
+          explanation.trapped) links
+          (subst (λ (g : List ℕ). IsTrappedOf source image inputs steps events
+          (performing_comps g explanation.links) explanation.trapped) given is.account.trapped)) known.account.trapped
 
   one_explanation : (image : Option ImageParts) (source : SourceParts) (options : RunOptions)
       (explanation other : Explanation) → IsExplainedOn image source options explanation →
