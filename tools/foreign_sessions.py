@@ -20,6 +20,7 @@ from foreign_program import Refused
 from sections import TOP, commands, count, program, read
 
 PAGE = "docs/FOREIGN.md"
+TUTORIAL = "docs/TUTORIAL.md"
 CHECKED = re.compile(r"^secomp: (this program has run-time checks|building ).*\n", re.M)
 ADDRESS = re.compile(r"\b0x[0-9a-f]{8}\b")
 ROW = re.compile(r"\| (\d+) \| [^|]+ \| `([^`]+)`[^|]* \|")
@@ -162,9 +163,21 @@ def sessions():
     return "\n".join(wrong)
 
 
+def tutorial():
+    """The session of the tutorial that makes an image, from `evil.c` on."""
+    wrong, begun = [], False
+    with Folder({}) as path:
+        for command, shown, _ in commands(f"{TOP}/{TUTORIAL}"):
+            begun = begun or "evil.c" in command
+            if begun and shell(command, path)[1] != shown:
+                wrong.append(f"$ {command}\nwrote\n{shell(command, path)[1]}in place of\n{shown}")
+    return "\n".join(wrong)
+
+
 def tests():
     """The name of each test, and what says how it failed."""
     yield "the sessions", sessions
+    yield "the session of the tutorial", tutorial
     yield "the attempts", attempts
     yield "without the compiler", without_compiler
     yield "an output that is full or closed", full_output

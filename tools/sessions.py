@@ -60,7 +60,8 @@ def sessions(document):
     texts, reports, found = {}, {}, []
     for command, shown, after in commands(document):
         parts = COMMAND.fullmatch(command)
-        if not parts or not (parts[1] or parts[3]):
+        # No document shows the bytes of an image; tools/foreign_sessions.py runs the sessions that make one.
+        if not parts or not (parts[1] or parts[3]) or "--image" in parts[2]:
             continue
         paths, words, path, name, draw = parts.groups()
         path = paths or path

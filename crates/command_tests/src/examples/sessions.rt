@@ -19,6 +19,7 @@ pub(crate) enum Input {
     Refused,
     Seven,
     Store,
+    Trapped,
     Two,
     Text1,
 }
@@ -41,6 +42,7 @@ impl Input {
             Input::Refused => REFUSED_TEXT,
             Input::Seven => SEVEN_TEXT,
             Input::Store => STORE_TEXT,
+            Input::Trapped => TRAPPED_TEXT,
             Input::Two => TWO_TEXT,
             Input::Text1 => TEXT1_TEXT,
         }
@@ -697,6 +699,19 @@ int put(int i, int v) {
 }
 ";
 
+const TRAPPED_TEXT: &[u8] = b"// Main stores through null after its last event, so no event shows it. Run it with `explain --trapped`.
+#pragma compartment Main
+#pragma import Env output
+void output(int v);
+int main(void) {
+  int *p;
+  output(1);
+  p = 0;
+  *p = 1;
+  return 0;
+}
+";
+
 const TWO_TEXT: &[u8] = b"#pragma compartment Main
 #pragma import A f
 #pragma import B g
@@ -991,13 +1006,14 @@ int number(void) {
 ",
     },
     Session {
-        words: "explain --in=-524288,5,0",
+        words: "explain --trapped --in=-524288,5,0",
         input: Input::Messages,
         want: b"call Main Parser next_kind
 in Parser -524288
 in Parser 5
 stop trap owner 0x0130006c
 chain 0
+trapped Parser OutOfBounds line 15
 ",
     },
     Session {
@@ -1096,7 +1112,7 @@ stop ended
 ",
     },
     Session {
-        words: "explain",
+        words: "explain --trapped",
         input: Input::Full,
         want: b"call Main Sum up_to 10
 ret Sum Main 55
@@ -1104,6 +1120,16 @@ out Main 55
 call Main Sum up_to 1000
 stop trap owner 0x01100008
 chain 0
+trapped Sum stack
+",
+    },
+    Session {
+        words: "explain --trapped",
+        input: Input::Trapped,
+        want: b"out Main 1
+stop trap owner 0x01000028
+chain 0
+trapped Main NullUse line 8
 ",
     },
     Session {
@@ -1202,10 +1228,11 @@ chain 0
 ];
 
 // Of docs/EXPLAIN.md.
-pub(crate) const EXPLAIN: &[Session] = &[Session {
-    words: "explain",
-    input: Input::Store,
-    want: b"call Main Net put 4 9
+pub(crate) const EXPLAIN: &[Session] = &[
+    Session {
+        words: "explain",
+        input: Input::Store,
+        want: b"call Main Net put 4 9
 ret Net Main 9
 out Main 9
 end Main 0
@@ -1213,7 +1240,17 @@ stop ended
 chain 1
 replace Net after 1 OutOfBounds line 6
 ",
-}];
+    },
+    Session {
+        words: "explain --trapped",
+        input: Input::Trapped,
+        want: b"out Main 1
+stop trap owner 0x01000028
+chain 0
+trapped Main NullUse line 8
+",
+    },
+];
 
 // Of examples/policies/README.md.
 pub(crate) const POLICIES: &[Session] = &[
