@@ -131,6 +131,8 @@ MISTAKES = [
     (FILE, "int f(size_t a) { return 1; }", 2, "no type size_t"),
     (FILE, "word a;", 2, "word is no type"),
     (MAIN, "  int *p; p = NULL;", 3, "NULL isn't declared: null is the literal 0"),
+    (FILE, "int *p = NULL;", 2, "NULL isn't declared: null is the literal 0"),
+    (MAIN, "  int a = input();", 3, "a local isn't initialised by a call: after the declarations, a = input(..);"),
     (MAIN, "  int count; cuont = 1;", 3, "cuont isn't; count is meant?"),
     (MAIN, "  output(1);", 3, "#pragma import Env output"),
     (TWO.replace("Net put", "Nets put", 1), "int put(int i);", 2,
@@ -154,6 +156,8 @@ MISTAKES = [
 SEVERAL = [
     (MAIN, "  int a\n  a = 1;\n  a = 2;", [(3, "a ; is missing")]),
     (MAIN, "  int i;\n  for (int j = 0; j < 3; j++) {\n    i = j;\n  }", [(4, "start of the function")]),
+    (FILE, "enum kind { A, B };\nstatic int limit = 4;\nint f() { return 1; }",
+     [(2, "no enum"), (3, "storage classes"), (4, "(void)")]),
     (MAIN, "  int i;\n  i = x;\n  i = y + x;", [(4, "x isn't"), (5, "y isn't"), (5, "x isn't")]),
     (MAIN, "  int i;\n  i = 1\n  i = 2;\n  if (i) i = 3;\n  i = 4;", [(4, "a ; is missing"), (6, "braces")]),
 ]

@@ -26,8 +26,8 @@ NAMED = re.compile(
     r"use [^;]*;|struct OutOfMemory\b|[<,] ?OutOfMemory>|-> OutOfMemory\b|^ +OutOfMemory(?:\(\w+\))?,$"
     r"|(?:\w+::)?OutOfMemory(?:\(\w+\))?\)*(?= =>| =|\|)", re.M)
 # An arm or a closure whose pattern names an error that means it, up to the end of what it gives.
-PASSED = re.compile(
-    r"(?:\|(?:\w+::)?OutOfMemory(?:\(\w+\))?\||(?:(?:\w+::)?OutOfMemory(?:\(\w+\))?|\w+::Memory|AllocError)\)* =>)[^,;]*[,;]")
+PASSED = re.compile(r"(?:\|(?:\w+::)?OutOfMemory(?:\(\w+\))?\|"
+                    r"|(?:(?:\w+::)?OutOfMemory(?:\(\w+\))?|\w+::Memory|AllocError)\)* =>)[^,;]*[,;]")
 
 
 def blanked(text, begin, end):
@@ -74,16 +74,17 @@ def found_places():
 def check(found):
     """Compares the places with those of the file; equal ones of a function count."""
     with open(KEPT, encoding="utf-8") as it:
-        kept = [line.partition("  # ") for line in it.read().splitlines() if line and not line.startswith("#")]
-    status, known = 0, [place for place, _, _ in kept]
+        lines = it.read().splitlines()
+    known = [line for line in lines if line and line[0] not in "# "]
+    status = 0
     for place in sorted(set(found) | set(known)):
         more = found.count(place) - known.count(place)
         if more:
             print(f"{place}: " + ("not in tools/out_of_memory.txt" if more > 0 else "gone: take it out of the file"))
             status = 1
-    for place, _, reason in kept:
-        if not reason.strip():
-            print(f"{place}: has no reason in tools/out_of_memory.txt")
+    for place, reason in zip(lines, [*lines[1:], ""]):
+        if place in known and not reason.startswith("    "):
+            print(f"{place}: has no reason below it in tools/out_of_memory.txt")
             status = 1
     return status
 

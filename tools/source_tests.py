@@ -32,7 +32,8 @@ fn total_of(items: &[u32]) -> u32 {
 """
 RENAMED = FIRST.replace("sum", "total").replace("twice", "double").replace('"total"', '"double"')
 LEMMAS = "use Rattle.std.specs.Prelude.{suc}\n" + "".join(
-    f"half_{name} : (n : ℕ) → half (twice n) ≡ n\nhalf_{name} zero = refl\nhalf_{name} (suc n) = ap suc (half_{name} n)\n"
+    f"half_{name} : (n : ℕ) → half (twice n) ≡ n\n"
+    f"half_{name} zero = refl\nhalf_{name} (suc n) = ap suc (half_{name} n)\n"
     for name in ("one", "two", "three", "one_again", "two_again", "three_again"))
 # The text of a file for a kind, what is changed in the copy, and how many pairs that gives.
 COPIES = [

@@ -27,6 +27,9 @@ FILES = {
     "typo.policy": "policy P\nstate s\non s call * Keyz set deny\npolicy end\n",
     "hidden.policy": "policy P\nstate s\nstate t\non s out * deny\non s out Log > 3 deny\npolicy end\n",
     "cut.policy": "policy P\nstate s\n",
+    "one_name.policy": "policy P\nstate s\non s ret Net > 0 deny\npolicy end\n",
+    "two.policy": "policy First\nstate a\non a out * deny\npolicy end\n\npolicy Second\nstate a\non a call * Net put "
+                  "arg 1 > 3 deny\npolicy end\n",
     "function.policy": "policy P\nstate s\non s ret Net put Main deny\npolicy end\n",
     "friendly.policy": "# what Net may be asked\r\npolicy Bounds\r\n\r\n  state all  // one\r\n"
                        "  on all call * Net put arg 1 < 0 or arg 1 > 3 deny\r\npolicy end\r\n"
@@ -82,6 +85,8 @@ USES = [
     (f"tools/policy {MESSAGES} hidden.policy", 1, ["hidden.policy:3: the state t can't be reached",
                                                   "hidden.policy:5: no event comes to this rule"]),
     (f"tools/policy {STORE} cut.policy", 2, ["cut.policy:1: the policy P has no line `policy end`"]),
+    (f"tools/policy {STORE} one_name.policy", 2,
+     ["one_name.policy:3: '>' is no name: the event is `ret CALLEE CALLER`"]),
     (f"tools/policy {STORE} function.policy", 2, ["a policy can't tell by which function is returned"]),
     (f"tools/policy {STORE} and.policy", 2, ["and.policy:4: `and` can't be put into the plain form here, as the rule "
                                              "of line 5"]),
@@ -125,8 +130,14 @@ USES = [
     ("cat examples/policies/bounds.policy examples/store.c | $S judge | tools/where examples/store.c --full --policy "
      "examples/policies/bounds.policy", 0,
      ["event 1: call Main Net put 4 9", "bounds.policy:4: on all call * Net put arg 1 > 3 deny"]),
+    (f"tools/policy --plain --name Second {STORE} two.policy | cat - {STORE} | $S judge | tools/where {STORE} --full "
+     "--policy two.policy --name Second", 0, ["two.policy:8: on a call * Net put arg 1 > 3 deny"]),
+    (f"tools/policy --plain --name Second {STORE} two.policy | cat - {STORE} | $S judge | tools/where {STORE} --full "
+     "--policy two.policy", 2, ["two.policy: 2 policies; choose one with --name"]),
     ("$S explain < inner.c | tools/where --full inner.c", 0,
      ["inner.c:5: after event 0: the index 4 leaves pin of 4 elements"]),
+    (f"tools/where --full {STORE} < none", 2, ["standard input has no report: ./secomp explain < examples/store.c"]),
+    (f"$S explain < inner.c | head -n 0 | tools/where --full {STORE}", 2, ["standard input has no report"]),
     # sanitized
     ("tools/sanitized inner.c", 1, ["inner.c:5: runtime error: index 4 out of bounds"]),
     (f"tools/sanitized {MESSAGES} numbers", 0, ["out Log 10"]),
@@ -156,11 +167,13 @@ USES = [
     (f"$S explain < {STORE} | examples/draw --html {STORE} | head -n 1", 0, ["<!doctype html>"]),
 ]
 HELPED = ["tools/check-runs", "tools/policy", "tools/campaign", "tools/run", "tools/bytes", "tools/where", "tools/why",
-          "tools/image", "tools/sanitized", "tools/language_server", "examples/draw"]
+          "tools/image", "tools/sanitized", "tools/language_server", "tools/attack", "tools/secret", "tools/foreign",
+          "tools/port", "examples/draw"]
 HELPED += [f"tools/{name}.py" for name in (
-    "bad_input_tests checked elide ends evaluation_tests fast fast_tests language_tests lemmas mistakes out_of_memory "
-    "pages policy_tests real refuse_allocations repeated sessions source_tests stub tool_sessions trusted unused "
-    "use_tests wrapper_tests").split()]
+    "attack_sessions bad_input_tests checked elide ends evaluation_tests fast fast_tests foreign_libraries "
+    "foreign_sessions language_tests lemmas mistakes out_of_memory pages policy_tests port_libraries port_sessions "
+    "port_torture real refuse_allocations repeated sessions source_tests stub tool_sessions trusted unused use_tests "
+    "wrapper_tests").split()]
 for TOOL in HELPED:
     WORDS = f"{'python3 ' * TOOL.endswith('.py')}{TOOL}"
     USES += [(f"{WORDS} --help", 0, [os.path.basename(TOOL)]), (f"{WORDS} --no-such-option", 2, [])]

@@ -23,7 +23,8 @@ def refused(text):
 
 def faults_of(text):
     """The faults of the first phase that has any. Of lex and syntax a section has one, and the next is found with the
-    line of the last one blanked; one at a blanked line comes from the blanking, and is none."""
+    line of the last one blanked, up to braces whose partner is on another line; one at a blanked line comes from the
+    blanking, and is none."""
     found = list(Program(text).faults)
     if not found or found[0].phase not in ("lex", "syntax"):
         return found
@@ -31,7 +32,9 @@ def faults_of(text):
     while len(found) < MOST:
         blanked |= {line for fault in found for line in (fault.line, fault.at)}
         for number in blanked:
-            lines[number - 1] = re.sub(r"[^{}]", " ", lines[number - 1])
+            line = lines[number - 1]
+            is_whole = line.count("{") == line.count("}") and not line.lstrip().startswith("}")
+            lines[number - 1] = " " * len(line) if is_whole else re.sub(r"[^{}]", " ", line)
         more = [fault for fault in Program("\n".join(lines)).faults
                 if fault.phase == found[0].phase and not blanked & {fault.line, fault.at}]
         if not more:
