@@ -149,6 +149,10 @@ MISTAKES = [
     (MAIN, "  int a; a = 1, a = 2;", 3, "no comma operator"),
     (MAIN, "  int a;\n  for (a = 0, a = 1; a < 2; a++) { }", 4, "no comma operator"),
     (MAIN, "  int a;\n  for (a = 0; a < 2; a++, a++) { }", 4, "no comma operator"),
+    ("int limit = 3;\n" + MAIN, "", 1, "only comments stand before the first section"),
+    ("@\nint main(void) {\n  return 0;\n}\n", "", 2, "which begins with a line as #pragma compartment Main"),
+    ("\ufeff// a ? b : c\n" + MAIN, "", 1, "byte order mark"),
+    (MAIN, "  int größe; // so: 'a' ? b", 3, "outside ASCII"),
     (MAIN.replace("(void)", "(int argc, char **argv)"), "", 2, "main is defined as int main(void)"),
 ]
 
@@ -156,6 +160,8 @@ MISTAKES = [
 SEVERAL = [
     (MAIN, "  int a\n  a = 1;\n  a = 2;", [(3, "a ; is missing")]),
     (MAIN, "  int i;\n  for (int j = 0; j < 3; j++) {\n    i = j;\n  }", [(4, "start of the function")]),
+    ("int a;\nint f(void) {\n  return 1;\n}\n" + FILE, "static int b;",
+     [(1, "only comments stand before"), (6, "storage classes")]),
     (FILE, "enum kind { A, B };\nstatic int limit = 4;\nint f() { return 1; }",
      [(2, "no enum"), (3, "storage classes"), (4, "(void)")]),
     (MAIN, "  int i;\n  i = x;\n  i = y + x;", [(4, "x isn't"), (5, "y isn't"), (5, "x isn't")]),

@@ -51,6 +51,9 @@ FILES = {
 
 # A command for bash, in a folder with these files, `tools`, `examples` and the program's folder; its status, and parts
 # of what it writes on both streams. $S is the program.
+TRAPPED = ("printf 'call Main Parser next_kind\\nin Parser -524288\\nin Parser 5\\nstop trap owner 0x0130006c\\nchain "
+           "0\\ntrapped Parser OutOfBounds line 15\\n' | ")
+GIVEN = (f"sed 's/= v;/= v + 1;/' {STORE} > other.c; ($S compile < other.c; cat {STORE}) | $S explain --image | ")
 EXPLAIN = f"$S explain --in=-524288,5,0 < {MESSAGES} | "
 USES = [
     # check-runs
@@ -75,6 +78,8 @@ USES = [
     ("tools/check-runs", 2, ["required"]),
     ("tools/check-runs eat.c many2", 2, ["many2"]),
     (f"tools/check-runs {MESSAGES} lists | head -n 1", 0, ["line 2"]),
+    ("tools/check-runs examples/full.c empty_line", 1, ["the source is blamed for nothing: a stack is full"]),
+    ("tools/check-runs examples/endless.c empty_line", 1, ["the run doesn't end: raise --events"]),
     # policy
     (f"tools/policy {STORE} friendly.policy", 0, ["Bounds: 1 states, 2 rules, no faults", "Inside: 1 states, 3 rules"]),
     (f"tools/policy --plain --name Inside {STORE} friendly.policy | cat - {STORE} | $S judge | tail -n 1", 0,
@@ -138,6 +143,10 @@ USES = [
      ["inner.c:5: after event 0: the index 4 leaves pin of 4 elements"]),
     (f"tools/where --full {STORE} < none", 2, ["standard input has no report: ./secomp explain < examples/store.c"]),
     (f"$S explain < inner.c | head -n 0 | tools/where --full {STORE}", 2, ["standard input has no report"]),
+    (TRAPPED + f"tools/where --full {MESSAGES}", 0,
+     ["trapped Parser OutOfBounds line 15    examples/messages.c:76: fields[field] = input();",
+      "index -524288 of fields, a global of 3 cells"]),
+    (GIVEN + f"tools/where --full {STORE}", 0, ["given Net\nchain 0", "nothing more is said"]),
     # sanitized
     ("tools/sanitized inner.c", 1, ["inner.c:5: runtime error: index 4 out of bounds"]),
     (f"tools/sanitized {MESSAGES} numbers", 0, ["out Log 10"]),
@@ -164,6 +173,9 @@ USES = [
      ["against the policy, rule 2, clean"]),
     (f"$S explain < {STORE} | examples/draw --html nosuch.c", 2, ["nosuch.c: No such file"]),
     ("examples/draw < good", 2, ["draw: line 1"]),
+    (GIVEN + "examples/draw", 0, ["Note over C1: given: other code than the program's"]),
+    (TRAPPED + "examples/draw", 0, ["stop trap owner 0x0130006c, trapped Parser OutOfBounds line 15"]),
+    ("printf 'stop ended\\nchain 0\\ntrapped Main stack\\n' | examples/draw", 2, ["draw: line 3"]),
     (f"$S explain < {STORE} | examples/draw --html {STORE} | head -n 1", 0, ["<!doctype html>"]),
 ]
 HELPED = ["tools/check-runs", "tools/policy", "tools/campaign", "tools/run", "tools/bytes", "tools/where", "tools/why",

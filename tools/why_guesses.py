@@ -4,6 +4,7 @@ import re
 
 # What stands in the line, by phase, and what it means: the first that fits comes first.
 REASONS = [
+    ("lex", r"^\ufeff", "the file begins with a byte order mark: save it as UTF-8 without one"),
     ("lex", r"'", "a character constant: write its number, as 65 for 'A'"),
     ("lex", r'"', "a string: there are none; keep an array of int and fill it with numbers"),
     ("lex", r"^\s*#\s*(define|undef)\b", "no preprocessing: write the number, or a global, in place of a macro"),
