@@ -8,6 +8,7 @@ The last line counts; the status is 1 if a test failed.
 import argparse
 import json
 import os
+import re
 import subprocess
 import sys
 import tempfile
@@ -230,6 +231,23 @@ def formats(folder):
     yield "" if right else f"--sarif: {wrote}"
 
 
+def hook(folder):
+    """The hook of docs/BUILD.md, in a repository of its own: it lets no fault through, and then the mended text."""
+    with open(f"{TOP}/docs/BUILD.md", encoding="utf-8") as it:
+        script = re.search(r"(    #!/bin/sh\n(?:    .*\n)+)", it.read())[1].replace("/opt/secomp", TOP)
+    os.makedirs(f"{folder}/repository")
+    run("cd repository; git init -q .; mkdir policies; cp ../examples/policies/key.policy policies; cp ../good inputs; "
+        "cp ../examples/messages.c program.c; git add .", folder)
+    with open(f"{folder}/repository/.git/hooks/pre-commit", "w", encoding="utf-8") as it:
+        it.write(re.sub("^    ", "", script, flags=re.M))
+    os.chmod(f"{folder}/repository/.git/hooks/pre-commit", 0o755)
+    commit = "git -c user.name=a -c user.email=a@b commit -qam next"
+    for change, wanted in (("true", 0), ("sed -n 2p ../lists > inputs", 1),
+                           ("cp ../good inputs; echo '}' >> program.c", 1)):
+        wrote, status = run(f"cd repository; {change}; {commit}", folder)
+        yield "" if status == wanted else f"the hook, after `{change}`: status {status}\n{wrote}"
+
+
 def answers():
     with tempfile.TemporaryDirectory() as folder:
         for name in ("tools", "examples"):
@@ -240,6 +258,7 @@ def answers():
         with ThreadPoolExecutor(2) as pool:
             yield from pool.map(lambda use: answer(use, folder), USES)
         yield from formats(folder)
+        yield from hook(folder)
 
 
 if __name__ == "__main__":
