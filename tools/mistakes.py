@@ -153,6 +153,11 @@ MISTAKES = [
     ("@\nint main(void) {\n  return 0;\n}\n", "", 2, "which begins with a line as #pragma compartment Main"),
     ("\ufeff// a ? b : c\n" + MAIN, "", 1, "byte order mark"),
     (MAIN, "  int größe; // so: 'a' ? b", 3, "outside ASCII"),
+    (FILE, "int f(int a) {\n  return a;\n", 5, "a `}` is missing before"),
+    (FILE, "int a = -2147483648;", 2, "the least int is 0x80000000"),
+    (MAIN, "  int a; a = 1;\n  1 = a;", 4, "on the left of = stand"),
+    (MAIN, "  int a; int *p; p = 0;\n  &a = p;", 4, "on the left of = stand"),
+    (TWO.replace("@", "int put(int i);\nint f(void) { return put; }"), "", 4, "put is a function, and no variable"),
     (MAIN.replace("(void)", "(int argc, char **argv)"), "", 2, "main is defined as int main(void)"),
 ]
 

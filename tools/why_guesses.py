@@ -29,6 +29,7 @@ REASONS = [
      "of suffixes there is u: int and unsigned int have 32 bits"),
     ("lex", r"\b\d+\.\d*|\.\d+", "no floating point"),
     ("lex", r"\b\d+[eE][+-]?\d+", "no floating point"),
+    ("lex", r"-\s*2147483648\b", "the least int is 0x80000000: 2147483648 itself is no int"),
     ("lex", r"\b\d{10,}[uU]?\b", "a decimal integer without u is at most 2147483647; with u 4294967295"),
     ("lex", r":", "no labels, no switch, no bit fields: a colon is no token"),
     ("lex", r"\\", "no lines that go on on the next one"),
