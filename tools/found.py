@@ -1,5 +1,6 @@
 """What tools/check-runs found, as text, as objects and as a SARIF log. Nothing here is proved."""
 import re
+from urllib.parse import quote
 
 from command import Refused
 from runs import advice, place
@@ -113,7 +114,8 @@ def sarif(path, text, runs, words):
         results.append({
             "ruleId": rule_of(finding), "ruleIndex": rules.index(rule_of(finding)), "level": "error",
             "message": {"text": shown[0][1] + more},
-            "locations": [{"physicalLocation": {"artifactLocation": {"uri": file}, "region": {"startLine": line}}}],
+            "locations": [
+                {"physicalLocation": {"artifactLocation": {"uri": quote(file)}, "region": {"startLine": line}}}],
             "partialFingerprints": {"finding/v1": finding}})
     driver = {"name": "secomp", "rules": [
         {"id": rule, "shortDescription": {"text": f"secomp: {rule}"}} for rule in rules]}

@@ -229,6 +229,8 @@ def formats(folder):
     named = all(rules[it["ruleIndex"]] == it["ruleId"] for it in results)
     right = log["version"] == "2.1.0" and lines == [76, 76] and named
     yield "" if right else f"--sarif: {wrote}"
+    wrote, _ = run(f"cp {MESSAGES} 'a text.c'; tools/check-runs 'a text.c' lists --sarif", folder)
+    yield "" if '"uri": "a%20text.c"' in wrote else f"--sarif, a path with a blank: {wrote}"
 
 
 def hook(folder):
