@@ -50,6 +50,9 @@ FILES = {
     "frame.c": "#pragma compartment Main\nint main(void) {\n  int a[9000];\n  a[0] = 1;\n  return 0;\n}\n",
 }
 
+# The folder trial_cases has three programs of 250 to 350 lines, as a new user writes them. Each has four faults, which
+# its file `.found` names: past the end of a heap block, after free, an uninitialised read, and one of a single value.
+#
 # A command for bash, in a folder with these files, `tools`, `examples` and the program's folder; its status, and parts
 # of what it writes on both streams. $S is the program.
 TRAPPED = ("printf 'call Main Parser next_kind\\nin Parser -524288\\nin Parser 5\\nstop trap owner 0x0130006c\\nchain "
@@ -81,6 +84,12 @@ USES = [
     (f"tools/check-runs {MESSAGES} lists | head -n 1", 0, ["line 2"]),
     ("tools/check-runs examples/full.c empty_line", 1, ["the source is blamed for nothing: a stack is full"]),
     ("tools/check-runs examples/endless.c empty_line", 1, ["the run doesn't end: raise --events"]),
+    *((f"tools/check-runs $CASES/{name}.c $CASES/{name}.in --allow $CASES/{name}.found", 0, ["runs, 0 with findings\n"])
+      for name in ("gate", "vm", "book")),
+    *((f"tools/check-runs $CASES/{name}.c $CASES/{name}.in", 1, ["4 with findings"]) for name in ("gate", "vm", "book")),
+    ("tools/check-runs $CASES/gate.c good $CASES/gate.policy", 0, ["1 runs, 0 with findings, 2 policies"]),
+    ("tools/check-runs $CASES/gate.c $CASES/gate.in $CASES/gate.policy", 1,
+     ["gate.policy:6: line 4: LoggedIn is violated by event 29, `call Main Keys set_key 0 1 2`"]),
     # policy
     (f"tools/policy {STORE} friendly.policy", 0, ["Bounds: 1 states, 2 rules, no faults", "Inside: 1 states, 3 rules"]),
     (f"tools/policy --plain --name Inside {STORE} friendly.policy | cat - {STORE} | $S judge | tail -n 1", 0,
@@ -193,7 +202,8 @@ for TOOL in HELPED:
 
 
 def run(command, folder):
-    places = {**os.environ, "S": program(), "SECOMP": program(), "XDG_CACHE_HOME": f"{folder}/cache"}
+    places = {**os.environ, "S": program(), "SECOMP": program(), "CASES": f"{TOP}/tools/trial_cases",
+              "XDG_CACHE_HOME": f"{folder}/cache"}
     ran = subprocess.run(["bash", "-o", "pipefail", "-c", command], cwd=folder, env=places, stdin=subprocess.DEVNULL,
                          stdout=subprocess.PIPE, stderr=subprocess.STDOUT, check=False)
     return ran.stdout.decode(errors="replace"), ran.returncode
