@@ -43,6 +43,10 @@ FILES = {
     "inner.c": "#pragma compartment Main\nstruct lock { int pin[4]; int trusted; };\nstruct lock door;\nint "
                "main(void) {\n"
                "  door.pin[4] = 1;\n  return door.trusted;\n}\n",
+    "bounds.c": "#pragma compartment Main\nstruct s { int a[4]; int b; };\nstruct s x;\nint f(int i, int n) {\n"
+                "  if (i < 0 || i >= 4) { return 0; }\n  return x.a[i];\n}\nint g(int n) {\n  int i;\n"
+                "  for (i = 0; i <= 4; i++) { x.a[i] = 0; }\n  if (n < 0) { return 0; }\n  return x.a[n];\n}\n"
+                "int main(void) { return 0; }\n",
     "eat.c": "#pragma compartment Main\n#pragma import Env input\nint input(void);\nint main(void) {\n  int a;\n  a = "
              "input();\n"
              "  while (a != 0) { a = input(); }\n  return 0;\n}\n",
@@ -84,9 +88,9 @@ USES = [
     (f"tools/check-runs {MESSAGES} lists | head -n 1", 0, ["line 2"]),
     ("tools/check-runs examples/full.c empty_line", 1, ["the source is blamed for nothing: a stack is full"]),
     ("tools/check-runs examples/endless.c empty_line", 1, ["the run doesn't end: raise --events"]),
-    *((f"tools/check-runs $CASES/{name}.c $CASES/{name}.in --allow $CASES/{name}.found", 0, ["runs, 0 with findings\n"])
-      for name in ("gate", "vm", "book")),
-    *((f"tools/check-runs $CASES/{name}.c $CASES/{name}.in", 1, ["4 with findings"]) for name in ("gate", "vm", "book")),
+    *((f"tools/check-runs $CASES/{it}.c $CASES/{it}.in --allow $CASES/{it}.found", 0, ["runs, 0 with findings\n"])
+      for it in ("gate", "vm", "book")),
+    *((f"tools/check-runs $CASES/{it}.c $CASES/{it}.in", 1, ["4 with findings"]) for it in ("gate", "vm", "book")),
     ("tools/check-runs $CASES/gate.c good $CASES/gate.policy", 0, ["1 runs, 0 with findings, 2 policies"]),
     ("tools/check-runs $CASES/gate.c $CASES/gate.in $CASES/gate.policy", 1,
      ["gate.policy:6: line 4: LoggedIn is violated by event 29, `call Main Keys set_key 0 1 2`"]),
@@ -164,6 +168,9 @@ USES = [
     ("tools/sanitized inner.c --compiler cc1", 2, ["invalid choice"]),
     # why
     ("tools/why --lint inner.c", 1, ["inner.c:5: pin has 4 elements, and the index 4 is past them"]),
+    ("tools/why --lint bounds.c; tools/why --lint bounds.c | wc -l", 1,
+     ["bounds.c:10: a lies within a larger variable and has 4 elements, but i may be up to 4", "\n2\n",
+      "bounds.c:12: a lies within a larger variable and has 4 elements, but n isn't bounded from above"]),
     ("tools/why inner.c", 0, ["inner.c: accepted"]),
     (f"tools/why {REFUSED}", 1, ["refused.c:6:3: types"]),
     (f"tools/why {REFUSED} | head -n 1", 0, ["refused.c:6:3"]),
