@@ -203,6 +203,8 @@ HELPED += [f"tools/{name}.py" for name in (
     "foreign_sessions language_tests lemmas mistakes out_of_memory pages policy_tests port_libraries port_sessions "
     "port_torture real refuse_allocations repeated sessions source_tests stub tool_sessions trusted unused use_tests "
     "wrapper_tests").split()]
+HELPED += [f"bench/{name}.py" for name in (
+    "chains each_byte exec folding gate given hostile judge limits outsider riscv_loops trapped turns zone").split()]
 for TOOL in HELPED:
     WORDS = f"{'python3 ' * TOOL.endswith('.py')}{TOOL}"
     USES += [(f"{WORDS} --help", 0, [os.path.basename(TOOL)]), (f"{WORDS} --no-such-option", 2, [])]
@@ -269,7 +271,7 @@ def hook(folder):
 
 def answers():
     with tempfile.TemporaryDirectory() as folder:
-        for name in ("tools", "examples"):
+        for name in ("tools", "examples", "bench"):
             os.symlink(f"{TOP}/{name}", f"{folder}/{name}")
         for name, text in FILES.items():
             with open(f"{folder}/{name}", "w", encoding="utf-8", newline="") as it:
