@@ -11,9 +11,10 @@ compartments with full globals, the best of three.
 import re
 import shutil
 import subprocess
-import sys
 import tempfile
 import time
+
+from seeds import words_of
 
 STEPS = 16_777_216
 SOURCE = __file__.rsplit("/", 1)[0] + "/machine_main.txt"
@@ -75,9 +76,7 @@ def instructions(program, command, image, events):
 
 
 def main():
-    if len(sys.argv) != 2:
-        raise SystemExit(__doc__)
-    program = sys.argv[1]
+    program, = words_of(__doc__, "program")
     with tempfile.NamedTemporaryFile() as image:
         def put(data):
             image.seek(0)

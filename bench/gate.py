@@ -18,6 +18,8 @@ import sys
 import tempfile
 import time
 
+from seeds import words_of
+
 TICKS = os.sysconf("SC_CLK_TCK")
 KINDS = ["proof", "tests", "edits"]
 
@@ -104,4 +106,4 @@ def main(words):
 
 
 if __name__ == "__main__":
-    sys.exit(main(sys.argv[1:]))
+    sys.exit(main(words_of(__doc__, "folder?")))

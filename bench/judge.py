@@ -8,8 +8,9 @@ policy stays. The aim is 50 ms. The least of five runs is printed.
 """
 import os
 import subprocess
-import sys
 import time
+
+from seeds import words_of
 
 EVENTS = 4096
 TEXT = f"""#pragma compartment Main
@@ -65,4 +66,4 @@ def main(words):
 
 
 if __name__ == "__main__":
-    main(sys.argv[1:])
+    main(words_of(__doc__, "program?"))

@@ -5,7 +5,8 @@ Usage: riscv_loops.py FOLDER. Each program runs its loop ITERATIONS times and ex
 instructions each executes. The words are those of LOOPS in machine_main.txt.
 """
 import struct
-import sys
+
+from seeds import words_of
 
 ITERATIONS = 0x20000 << 12
 
@@ -36,7 +37,7 @@ def elf(words):
 
 
 def main():
-    folder = sys.argv[1]
+    folder, = words_of(__doc__, "folder")
     with open(f"{folder}/counts", "w") as counts:
         for name, (before, inside, words) in LOOPS.items():
             with open(f"{folder}/{name}", "wb") as out:

@@ -1,8 +1,16 @@
-"""What the tools over texts from seeds share: their words, and where a text that fails is kept."""
+"""What the scripts share: their words, and of those over texts from seeds where a text that fails is kept."""
 import argparse
 import os
 
 TOP = os.path.dirname(os.path.dirname(os.path.realpath(__file__)))
+
+
+def words_of(text, *names):
+    """The words of a script whose help is this text, those whose name ends in `?` if they are there."""
+    options = argparse.ArgumentParser(description=text, formatter_class=argparse.RawDescriptionHelpFormatter)
+    for name in names:
+        options.add_argument(name.rstrip("?"), nargs="?" if name.endswith("?") else None)
+    return [word for word in vars(options.parse_args()).values() if word is not None]
 
 
 def arguments(description, texts):

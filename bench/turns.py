@@ -11,8 +11,9 @@ instructions from the loop's label to its branch, and those of the function that
 import re
 import shutil
 import subprocess
-import sys
 import tempfile
+
+from seeds import words_of
 
 GCC = "riscv64-unknown-elf-gcc"
 HEAD = "int main(void) {\n  unsigned i;\n  int sum = 0;\n  int x = 0;\n  int y = 0;\n  for (i = 0; i < ROUNDS; i++) {\n"
@@ -77,7 +78,7 @@ def round_of(program, name):
 
 
 def main():
-    programs = dict(zip(("secomp", "before"), sys.argv[1:]))
+    programs = dict(zip(("secomp", "before"), words_of(__doc__, "program", "before?")))
     for name in LOOPS:
         figures = {each: round_of(program, name) for each, program in programs.items()}
         figures.update({"gcc " + level: by_gcc(name, level) for level in ("-O0", "-O1")})

@@ -7,9 +7,10 @@ and takes one again in an endless loop; which one, a generator says. What the lo
 filling, are taken off. It prints the best of three runs for each n.
 """
 import subprocess
-import sys
 import tempfile
 import time
+
+from seeds import words_of
 
 COUNTS = (100, 1_000, 10_000, 60_000)
 ROUNDS = 100_000
@@ -101,10 +102,9 @@ def looping(secomp, count, calls):
 
 
 def main():
-    if len(sys.argv) != 2:
-        raise SystemExit(__doc__)
+    program, = words_of(__doc__, "program")
     for count in COUNTS:
-        took = looping(sys.argv[1], count, True) - looping(sys.argv[1], count, False)
+        took = looping(program, count, True) - looping(program, count, False)
         print(f"{count:6} {took / ROUNDS * 1e6:.2f}")
 
 

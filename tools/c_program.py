@@ -4,7 +4,7 @@ from c_check import Checker
 from c_tokens import Fault, tokens
 from c_tree import parse
 from c_types import shown, similar
-from sections import sections
+from sections import Section, sections
 
 PHASES = ["lex", "syntax", "names", "types", "interface", "count"]
 ENVIRONMENT = {"input": ("int", []), "output": ("void", ["int"])}
@@ -23,6 +23,10 @@ class Program:
 
     def __init__(self, text):
         self.parts, self.faults = [Part(section) for section in sections(text)], []
+        # what stands before the first section, as if a compartment line were before it
+        before = Section("", 0)
+        before.lines = ["", *text.split("\n")[:self.parts[0].first - 1 if self.parts else None]]
+        self.preamble = Part(before)
         for phase in (self.cut, self.parse, self.check, self.meet):
             if not self.faults:
                 phase()
@@ -30,7 +34,7 @@ class Program:
         self.faults = [fault for fault in self.faults if fault.phase == self.faults[0].phase]
 
     def each(self, step):
-        for part in self.parts:
+        for part in [self.preamble, *self.parts]:
             try:
                 step(part)
             except Fault as fault:
@@ -50,7 +54,11 @@ class Program:
 
     def parse(self):
         def step(part):
-            part.tree = parse(part.tokens)
+            if part is not self.preamble:
+                part.tree = parse(part.tokens)
+            elif (first := part.tokens[0]).kind != "end":
+                raise Fault("syntax", first.line, first.column, "only comments stand before the first section, which "
+                            f"begins with a line as #pragma compartment {self.parts[0].name if self.parts else 'Main'}")
         self.each(step)
 
     def check(self):

@@ -51,6 +51,10 @@ def declaration_reason(tokens, at, is_parameter=False):
 def statement_reason(tokens, at):
     """Why no statement begins here, where that is clear from its first tokens: a reason, and the token."""
     token, follows = tokens[at], tokens[min(at + 1, len(tokens) - 1)]
+    if token.text in ("int", "signed", "unsigned", "struct", "void"):
+        ahead = [next_one.text for next_one in tokens[at:at + 8]]
+        if "(" in ahead and ";" not in ahead[:ahead.index("(")] and "=" not in ahead[:ahead.index("(")]:
+            return "no function begins within another: a `}` is missing before", token
     if token.text in ("int", "signed", "unsigned", "struct"):
         return "locals are declared at the start of the function, before all statements", token
     if token.text in QUALIFIERS or token.text in TYPES and follows.kind in ("name", "word"):
@@ -59,6 +63,9 @@ def statement_reason(tokens, at):
         return "a block stands only behind if, else, while and for", token
     if token.text in OTHERS:
         return OTHERS[token.text], token
+    if token.kind == "number" or token.text in ("-", "+", "!", "~", "&"):
+        return ("an expression is no statement: on the left of = stand a variable, an element, a member, or * with a "
+                "pointer"), token
     if token.kind == "name" and follows.kind == "name":
         return f"{token.text} is no type, or an operator is missing before {follows.text}", follows
     if token.kind == "name" and follows.text == ":":

@@ -79,7 +79,7 @@ class Parser(Statements):
             self.take(";")
         if not made.members:
             self.fault("a struct has at least one member")
-        self.take()
+        made.close = self.take().line
         if self.token().kind == "name":
             self.fault("a struct is defined by itself; variables are declared after it: struct NAME x;")
         self.take(";", "`;` is missing after the `}` of a struct")
@@ -116,6 +116,8 @@ class Parser(Statements):
 
     def constant(self):
         sign = -1 if self.text() == "-" and self.take() else 1
+        if self.text() == "NULL":
+            self.fault("NULL isn't declared: null is the literal 0")
         if self.token().kind != "number":
             self.fault("a global begins with an integer constant, which may have a minus; compute others in main")
         return sign * value_of(self.take().text)
@@ -180,6 +182,9 @@ class Parser(Statements):
                 self.take()
                 if self.text() == "malloc":
                     self.fault("malloc is a statement of its own, after the declarations: p = malloc(n * sizeof(T));")
+                if self.token().kind == "name" and self.text(1) == "(":
+                    self.fault(f"a local isn't initialised by a call: after the declarations, {name.text} = "
+                               f"{self.text()}(..);")
                 made.init = self.expression()
             node.locals.append(made)
             more = self.text() == "," and self.take()

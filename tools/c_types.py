@@ -100,7 +100,7 @@ class Types:
         names = [*self.scope, *self.globals]
         if node.name in CONSTANTS:
             why = f"{node.name} isn't declared: {CONSTANTS[node.name]}"
-        elif node.name in self.functions:
+        elif node.name in self.functions or node.name in self.prototypes:
             why = f"{node.name} is a function, and no variable: there are no pointers to functions"
         else:
             why = f"a variable is declared before it is used, and once: {node.name} isn't{similar(node.name, names)}"

@@ -1,5 +1,6 @@
 """What tools/check-runs found, as text, as objects and as a SARIF log. Nothing here is proved."""
 import re
+from urllib.parse import quote
 
 from command import Refused
 from runs import advice, place
@@ -37,7 +38,7 @@ def described(path, text, run, words=()):
             yield (run.stop, path, line,
                    f"the machine stops where {run.blame.name} is blamed, {run.blame.cause}: {stands}")
         else:
-            yield run.stop, path, 1, f"the run doesn't end: {advice(run.stop, words, len(run.events)) or run.stop}"
+            yield run.stop, path, 1, ended_early(run, words)
     for link in run.links:
         line, stands = place(text, link)
         yield link.finding(), path, line, f"{link.name} is blamed after event {link.after}, {link.cause}: {stands}"
@@ -47,6 +48,15 @@ def described(path, text, run, words=()):
             yield (verdict.finding(), verdict.policy.path, verdict.line(),
                    f"{verdict.policy.name} is violated by event {verdict.after + 1}, `{event}`, of {verdict.name}, "
                    f"{meant(verdict)}")
+
+
+def ended_early(run, words):
+    """Why a run ends early that the source isn't blamed for, in a sentence."""
+    if not run.stop.startswith("stop trap"):
+        return f"the run doesn't end: {advice(run.stop, words, len(run.events))}"
+    if run.links:
+        return "the machine stops after the events that the chain accounts for"
+    return "the machine stops where the source is blamed for nothing: a stack is full, as by a recursion without end"
 
 
 def meant(verdict):
@@ -104,7 +114,8 @@ def sarif(path, text, runs, words):
         results.append({
             "ruleId": rule_of(finding), "ruleIndex": rules.index(rule_of(finding)), "level": "error",
             "message": {"text": shown[0][1] + more},
-            "locations": [{"physicalLocation": {"artifactLocation": {"uri": file}, "region": {"startLine": line}}}],
+            "locations": [
+                {"physicalLocation": {"artifactLocation": {"uri": quote(file)}, "region": {"startLine": line}}}],
             "partialFingerprints": {"finding/v1": finding}})
     driver = {"name": "secomp", "rules": [
         {"id": rule, "shortDescription": {"text": f"secomp: {rule}"}} for rule in rules]}

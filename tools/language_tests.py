@@ -1,12 +1,16 @@
 #!/usr/bin/env python3
-"""Tests tools/language_server: an editor's messages and what must come back. The last line counts; the status is 1 if
-one failed.
+"""Tests tools/language_server: an editor's messages and what must come back, all at once and step by step, and the
+recipes of docs/TOOLS.md in Neovim and Vim where these are installed. The last line counts; the status is 1 if one
+failed.
 """
 import argparse
 import json
 import os
+import re
+import shutil
 import subprocess
 import sys
+import tempfile
 
 from sections import TOP, count, program, read
 
@@ -47,6 +51,100 @@ def asked(number, method, text, word, nth=0):
             "params": {"textDocument": {"uri": "file:///text.c"}, "position": place}}
 
 
+class Client:
+    """An editor that waits for each answer, as editors do."""
+
+    def __init__(self):
+        self.server = subprocess.Popen([f"{TOP}/tools/language_server"], stdin=subprocess.PIPE, stdout=subprocess.PIPE,
+                                       env={**os.environ, "SECOMP": program()})
+
+    def send(self, message):
+        self.server.stdin.write(framed(message))
+        self.server.stdin.flush()
+
+    def receive(self):
+        head = self.server.stdout.readline()
+        assert self.server.stdout.readline() == b"\r\n"
+        return json.loads(self.server.stdout.read(int(head.split(b":")[1])))
+
+    def ask(self, message):
+        """The result of a request."""
+        self.send(message)
+        return self.receive()["result"]
+
+    def open(self, message):
+        """What is marked of a text that is opened or changed."""
+        self.send(message)
+        return [mark["message"] for mark in self.receive()["params"]["diagnostics"]]
+
+
+def session():
+    """What an editor gets at each step of a session; false where that is wrong."""
+    client, name = Client(), {"uri": "file:///text.c", "version": 1}
+    change = {"textDocument": name, "contentChanges": [{"text": BROKEN}]}
+    yield "initialize", client.ask({"id": 1, "method": "initialize", "params": {}})["capabilities"]["hoverProvider"]
+    client.send({"method": "initialized", "params": {}})
+    yield "didOpen", client.open(opened(STORE)) == []
+    symbols = {"id": 2, "method": "textDocument/documentSymbol", "params": {"textDocument": name}}
+    put = client.ask(symbols)[1]["children"][2]
+    yield "documentSymbol", put["name"] == "put" and put["range"]["end"]["line"] > put["range"]["start"]["line"]
+    found = client.ask(asked(3, "definition", STORE, "put(4"))
+    yield "definition", found["range"]["start"]["line"] == line_of(STORE, "int put(int i, int v) {")
+    yield "hover", "exported by Net" in client.ask(asked(4, "hover", STORE, "put(4"))["contents"]["value"]
+    yield "didChange", "w isn't" in client.open({"method": "textDocument/didChange", "params": change})[0]
+    yield "didClose", client.open({"method": "textDocument/didClose", "params": {"textDocument": name}}) == []
+    yield "shutdown", client.ask({"id": 5, "method": "shutdown"}) is None
+    client.send({"method": "exit"})
+    yield "exit", client.server.wait(20) == 0
+
+
+def recipe(language):
+    """The block of docs/TOOLS.md with the recipe for an editor, for the server of this checkout."""
+    blocks = re.findall(r"(?:^    .*\n|^\n(?=    ))+", read(f"{TOP}/docs/TOOLS.md").decode(), re.M)
+    found = next(block for block in blocks if language in block)
+    return re.sub("^    ", "", found, flags=re.M).replace("/path/to/secomp", TOP)
+
+
+PROBE = """
+vim.wait(20000, function() return #vim.diagnostic.get(0) > 0 end, 50)
+for _, it in ipairs(vim.diagnostic.get(0)) do print(it.lnum + 1, it.message) end
+vim.api.nvim_win_set_cursor(0, {%d, 6})
+local found = vim.lsp.buf_request_sync(0, "textDocument/definition", vim.lsp.util.make_position_params(), 20000)
+print("defined at " .. found[1].result.range.start.line + 1)
+vim.cmd("qa!")
+"""
+
+
+def with_editors():
+    """The recipes of docs/TOOLS.md in the editors that are installed."""
+    with tempfile.TemporaryDirectory() as folder:
+        call = line_of(BROKEN, "put(4") + 1
+        for name, text in (("text.c", BROKEN), ("init.lua", recipe("vim.lsp.start(")), ("probe.lua", PROBE % call),
+                           ("vimrc", "syntax on\nfiletype on\n" + recipe("makeprg"))):
+            with open(f"{folder}/{name}", "w", encoding="utf-8") as it:
+                it.write(text)
+        wanted = f"{line_of(BROKEN, 'buf[i] = w;') + 1} names: "
+        for words, parts in (
+                ("nvim --headless -u init.lua text.c +luafile\\ probe.lua",
+                 [wanted, f"defined at {line_of(BROKEN, 'int put(int i, int v) {') + 1}"]),
+                ("vim -es -u vimrc text.c '+silent! make' '+call writefile([getline(\".\")], \"at\")' +qa!; cat at",
+                 ["buf[i] = w;"])):
+            yield words.split()[0], tried(words, parts, folder)
+
+
+def tried(words, parts, folder):
+    """Whether an editor shows these parts; one that isn't installed is none of the gate's faults."""
+    if not shutil.which(words.split()[0]):
+        print(f"wasn't tried: {words.split()[0]} isn't installed")
+        return True
+    ran = subprocess.run(["bash", "-c", words], cwd=folder, env={**os.environ, "SECOMP": program(), "HOME": folder},
+                         stdin=subprocess.DEVNULL, stdout=subprocess.PIPE, stderr=subprocess.STDOUT, check=False)
+    wrote = re.sub(r"\s+", " ", ran.stdout.decode(errors="replace"))
+    if wrong := [part for part in parts if part not in wrote]:
+        print(f"$ {words}\nwrote {wrote[-600:]}\nwithout {wrong}")
+    return not wrong
+
+
 def line_of(text, part):
     return text[:text.index(part)].count("\n")
 
@@ -83,6 +181,8 @@ def answers():
     ]
     for what, is_right in checks:
         yield "" if is_right else f"{what}: wrong: {sent}\n{said}"
+    for what, is_right in [*session(), *with_editors()]:
+        yield "" if is_right else f"{what}: wrong"
     _, status, said = talk([b"x"])
     yield "" if status == 1 and "Traceback" not in said else f"an editor that goes away: status {status}, {said}"
 

@@ -39,11 +39,16 @@ def without_return(section):
             yield head.group(1), section.first + text.count("\n", 0, at - 1)
 
 
+# A bound that lets every number through.
+ANY = 2 ** 32
+
+
 class Indices:
     """The indices of a function that leave an array, or may leave an array that lies within a variable."""
 
     def __init__(self, function):
-        self.found, self.compared = [], set()
+        # the variables that were compared, and of some the least number that the comparisons don't let through
+        self.found, self.compared, self.bounds = [], set(), {}
         for statement in function.body:
             self.statement(statement)
 
@@ -61,12 +66,25 @@ class Indices:
         """Looks at an expression, a call, or a part of a `for`; a condition's comparisons hold from then on."""
         if node.kind == "binary" and node.op in ("<", ">", "<=", ">=", "==", "!=") and is_condition:
             self.compared |= names_of(node)
+            self.bound(node)
         if node.kind == "index":
             self.index(node, line)
         for name, part in vars(node).items():
             for inner in part if isinstance(part, list) else [part]:
                 if hasattr(inner, "kind"):
                     self.walk(inner, line, is_condition or name == "cond")
+
+    def bound(self, node):
+        """Notes up to which number a comparison lets a variable through, as `i < 4`; one with 0 lets it through to any,
+        and one with something else to a number that isn't known here."""
+        left, right, op = node.left, node.right, node.op
+        if left.kind == "literal":
+            left, right, op = right, left, {"<": ">", ">": "<", "<=": ">=", ">=": "<="}.get(op, op)
+        if left.kind == "variable" and right.kind == "literal" and op in ("<", ">", "<=", ">="):
+            least = right.value + (op in ("<=", ">")) or ANY
+            self.bounds[left.name] = min(least, self.bounds.get(left.name, least))
+        else:
+            self.bounds.update(dict.fromkeys(names_of(node), 0))
 
     def index(self, node, line):
         of = node.base.type
@@ -80,6 +98,12 @@ class Indices:
                         "is blamed where it is used")
                 self.found.append((line, f"{name} has {of[1]} elements, and the index {index.value} is past them: it "
                                          f"{what}"))
+        elif is_inner and index.kind == "variable" and of[1] < self.bounds.get(index.name, 0):
+            bound = self.bounds[index.name]
+            most = f"may be up to {bound - 1}" if bound < ANY else "isn't bounded from above"
+            self.found.append((line, f"{name} lies within a larger variable and has {of[1]} elements, but {index.name} "
+                                     f"{most}: past the elements it may stay within the variable, which is no fault "
+                                     "here, and one in C"))
         elif is_inner and not self.is_bounded(index):
             self.found.append((line, f"the index of {name}, which lies within a larger variable, isn't compared "
                                      "before: past "

@@ -131,6 +131,8 @@ MISTAKES = [
     (FILE, "int f(size_t a) { return 1; }", 2, "no type size_t"),
     (FILE, "word a;", 2, "word is no type"),
     (MAIN, "  int *p; p = NULL;", 3, "NULL isn't declared: null is the literal 0"),
+    (FILE, "int *p = NULL;", 2, "NULL isn't declared: null is the literal 0"),
+    (MAIN, "  int a = input();", 3, "a local isn't initialised by a call: after the declarations, a = input(..);"),
     (MAIN, "  int count; cuont = 1;", 3, "cuont isn't; count is meant?"),
     (MAIN, "  output(1);", 3, "#pragma import Env output"),
     (TWO.replace("Net put", "Nets put", 1), "int put(int i);", 2,
@@ -147,6 +149,15 @@ MISTAKES = [
     (MAIN, "  int a; a = 1, a = 2;", 3, "no comma operator"),
     (MAIN, "  int a;\n  for (a = 0, a = 1; a < 2; a++) { }", 4, "no comma operator"),
     (MAIN, "  int a;\n  for (a = 0; a < 2; a++, a++) { }", 4, "no comma operator"),
+    ("int limit = 3;\n" + MAIN, "", 1, "only comments stand before the first section"),
+    ("@\nint main(void) {\n  return 0;\n}\n", "", 2, "which begins with a line as #pragma compartment Main"),
+    ("\ufeff// a ? b : c\n" + MAIN, "", 1, "byte order mark"),
+    (MAIN, "  int größe; // so: 'a' ? b", 3, "outside ASCII"),
+    (FILE, "int f(int a) {\n  return a;\n", 5, "a `}` is missing before"),
+    (FILE, "int a = -2147483648;", 2, "the least int is 0x80000000"),
+    (MAIN, "  int a; a = 1;\n  1 = a;", 4, "on the left of = stand"),
+    (MAIN, "  int a; int *p; p = 0;\n  &a = p;", 4, "on the left of = stand"),
+    (TWO.replace("@", "int put(int i);\nint f(void) { return put; }"), "", 4, "put is a function, and no variable"),
     (MAIN.replace("(void)", "(int argc, char **argv)"), "", 2, "main is defined as int main(void)"),
 ]
 
@@ -154,6 +165,10 @@ MISTAKES = [
 SEVERAL = [
     (MAIN, "  int a\n  a = 1;\n  a = 2;", [(3, "a ; is missing")]),
     (MAIN, "  int i;\n  for (int j = 0; j < 3; j++) {\n    i = j;\n  }", [(4, "start of the function")]),
+    ("int a;\nint f(void) {\n  return 1;\n}\n" + FILE, "static int b;",
+     [(1, "only comments stand before"), (6, "storage classes")]),
+    (FILE, "enum kind { A, B };\nstatic int limit = 4;\nint f() { return 1; }",
+     [(2, "no enum"), (3, "storage classes"), (4, "(void)")]),
     (MAIN, "  int i;\n  i = x;\n  i = y + x;", [(4, "x isn't"), (5, "y isn't"), (5, "x isn't")]),
     (MAIN, "  int i;\n  i = 1\n  i = 2;\n  if (i) i = 3;\n  i = 4;", [(4, "a ; is missing"), (6, "braces")]),
 ]

@@ -131,7 +131,8 @@ class Reader:
         state, kind, names = self.name(rest[0]), rest[1], rest[2:2 + NAMES[rest[1]]]
         if len(names) < NAMES[kind]:
             self.refuse(f"the event is `{WORDS[kind]}`, each a name or *")
-        names = [name if name == "*" else self.name(name) for name in names]
+        if wrong := next((name for name in names if name != "*" and not NAME.match(name)), None):
+            self.refuse(f"{wrong!r} is no name: the event is `{WORDS[kind]}`, each a name or *")
         conditions = self.conditions(kind, rest[2 + NAMES[kind]:])
         for condition in conditions:
             self.open.rules.append(Rule(state, kind, names, condition, to, self.number))
@@ -200,3 +201,13 @@ class Reader:
 def read_policies(path, data):
     """The policies of a file; what isn't one is refused with its line."""
     return Reader(path).read(data)
+
+
+def chosen(policies, name, path):
+    """The policy of this name, or the only one of a file."""
+    found = [policy for policy in policies if name in (None, policy.name)]
+    if not found:
+        raise Refused(f"{path}: no policy {name}")
+    if len(found) > 1:
+        raise Refused(f"{path}: {len(found)} policies; choose one with --name")
+    return found[0]

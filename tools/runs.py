@@ -7,7 +7,8 @@ from interface import refusal
 from sections import section_of, secomp
 
 EVENT = re.compile(r"(call|ret|in|out|end) ")
-LINK = re.compile(r"replace (\w+) after (\d+) (\w+) line (\d+)")
+LINK = re.compile(r"replace (\w+) after (\d+) (\w+) line (?P<line>\d+)")
+TRAPPED = re.compile(r"trapped (\w+) (\w+) line (?P<line>\d+)")
 BLAME = re.compile(r"stop blamed (\w+) (\w+) (\d+)")
 VERDICT = re.compile(r"verdict (?:holds (\w+)|violated after (\d+) by (\w+) rule (\d+) (\w+))")
 

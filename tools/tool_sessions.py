@@ -2,13 +2,14 @@
 """Runs the sessions of the documents of tools: `tool_sessions.py [WORD]`, at the top of the repository.
 
 A session is a line `$ COMMAND` in a block that is indented by four spaces, with what it writes below it, on both
-streams. They are run in order, in a folder of their own, in which the repository's folders and `secomp` stand. With
-WORD only those are run in which it stands, and those that show nothing. What a program with run-time checks says of
-itself isn't compared. Where a session wants a Debian package that isn't there, that is said. The last line counts; the
-status is 1 if one failed.
+streams. They are run in order, in a folder of their own, in which the repository's folders and `secomp` stand; that
+runs the program that SECOMP names, if it does. With WORD only those are run in which it stands, and those that show
+nothing. What a program with run-time checks says of itself isn't compared. Where a session wants a Debian package that
+isn't there, that is said. The last line counts; the status is 1 if one failed.
 """
 import os
 import re
+import shlex
 import subprocess
 import tempfile
 
@@ -44,8 +45,14 @@ def main(word=""):
 
 def in_folder(page, word):
     with tempfile.TemporaryDirectory() as folder:
-        for name in ("secomp", "tools", "docs", "examples"):
+        for name in ("tools", "docs", "examples"):
             os.symlink(f"{TOP}/{name}", f"{folder}/{name}")
+        if "SECOMP" in os.environ:
+            with open(f"{folder}/secomp", "w", encoding="utf-8") as it:
+                it.write(f'#!/bin/sh\nexec {shlex.quote(program())} "$@"\n')
+            os.chmod(f"{folder}/secomp", 0o755)
+        else:
+            os.symlink(f"{TOP}/secomp", f"{folder}/secomp")
         yield from answers(page, word, folder)
 
 

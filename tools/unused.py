@@ -2,7 +2,10 @@
 """Lists what nothing leads to: each definition and lemma of specs/ and proofs/ that no contract, answer, edit or
 document cites, nor anything else that they cite.
 
-usage: tools/unused.py [REPO]     prints FILE NAME LINES, and the sum
+usage:
+  tools/unused.py [REPO]    prints FILE NAME LINES, and the sums
+  tools/unused.py --check   compares the number of definitions with tools/counts.txt; the status is 1 if it has grown
+  tools/unused.py --write   writes the number there, unless it has grown
 
 Answers and invariants of functions count as cited, as do the files of EXAMPLES, which compute what the definitions
 say, and files with a line INSTANCE at their head, which show that premises can be met. Names are distinguished by
@@ -13,7 +16,8 @@ import os
 import re
 import sys
 
-from sections import usage
+from counts import check, write
+from sections import TOP, usage
 
 EXAMPLES = re.compile(
     r"(Examples?|Rows|Causes|Texts|Accounts|Known|Typed|Refusals|Runs|Seven|Computed|Small|Names|Calling)\.antt$")
@@ -137,20 +141,28 @@ class Repository:
                     self.reach(there, word)
 
 
-def main(words):
-    usage(__doc__, len(words) <= 1 and all(os.path.isdir(f"{word}/crates") for word in words))
-    own = os.path.dirname(os.path.dirname(os.path.realpath(__file__)))
-    repository = Repository(os.path.realpath(words[0]) if words else own)
+def unused(top):
+    """What nothing leads to: the file, the name, and how many lines it has."""
+    repository = Repository(top)
     repository.begin()
     repository.go_on()
-    total = 0
     for module, file in sorted(repository.files.items()):
         for name, lines in file.lines.items():
             if (module, name) not in repository.reached:
-                print(module.replace(".", "/") + ".antt", name, lines)
-                total += lines
-    print(total, "lines")
+                yield module.replace(".", "/") + ".antt", name, lines
+
+
+def main(words):
+    if words in (["--check"], ["--write"]):
+        number = {"unused definitions": len(list(unused(TOP)))}
+        return (check if words == ["--check"] else write)(number, "tools/unused.py")
+    usage(__doc__, len(words) <= 1 and all(os.path.isdir(f"{word}/crates") for word in words))
+    found = list(unused(os.path.realpath(words[0]) if words else TOP))
+    for file, name, lines in found:
+        print(file, name, lines)
+    print(f"{len(found)} definitions, {sum(lines for _, _, lines in found)} lines")
+    return 0
 
 
 if __name__ == "__main__":
-    main(sys.argv[1:])
+    sys.exit(main(sys.argv[1:]))

@@ -8,6 +8,7 @@ The last line counts; the status is 1 if a test failed.
 import argparse
 import json
 import os
+import re
 import subprocess
 import sys
 import tempfile
@@ -27,6 +28,9 @@ FILES = {
     "typo.policy": "policy P\nstate s\non s call * Keyz set deny\npolicy end\n",
     "hidden.policy": "policy P\nstate s\nstate t\non s out * deny\non s out Log > 3 deny\npolicy end\n",
     "cut.policy": "policy P\nstate s\n",
+    "one_name.policy": "policy P\nstate s\non s ret Net > 0 deny\npolicy end\n",
+    "two.policy": "policy First\nstate a\non a out * deny\npolicy end\n\npolicy Second\nstate a\non a call * Net put "
+                  "arg 1 > 3 deny\npolicy end\n",
     "function.policy": "policy P\nstate s\non s ret Net put Main deny\npolicy end\n",
     "friendly.policy": "# what Net may be asked\r\npolicy Bounds\r\n\r\n  state all  // one\r\n"
                        "  on all call * Net put arg 1 < 0 or arg 1 > 3 deny\r\npolicy end\r\n"
@@ -39,6 +43,10 @@ FILES = {
     "inner.c": "#pragma compartment Main\nstruct lock { int pin[4]; int trusted; };\nstruct lock door;\nint "
                "main(void) {\n"
                "  door.pin[4] = 1;\n  return door.trusted;\n}\n",
+    "bounds.c": "#pragma compartment Main\nstruct s { int a[4]; int b; };\nstruct s x;\nint f(int i, int n) {\n"
+                "  if (i < 0 || i >= 4) { return 0; }\n  return x.a[i];\n}\nint g(int n) {\n  int i;\n"
+                "  for (i = 0; i <= 4; i++) { x.a[i] = 0; }\n  if (n < 0) { return 0; }\n  return x.a[n];\n}\n"
+                "int main(void) { return 0; }\n",
     "eat.c": "#pragma compartment Main\n#pragma import Env input\nint input(void);\nint main(void) {\n  int a;\n  a = "
              "input();\n"
              "  while (a != 0) { a = input(); }\n  return 0;\n}\n",
@@ -46,8 +54,14 @@ FILES = {
     "frame.c": "#pragma compartment Main\nint main(void) {\n  int a[9000];\n  a[0] = 1;\n  return 0;\n}\n",
 }
 
+# The folder trial_cases has three programs of 250 to 350 lines, as a new user writes them. Each has four faults, which
+# its file `.found` names: past the end of a heap block, after free, an uninitialised read, and one of a single value.
+#
 # A command for bash, in a folder with these files, `tools`, `examples` and the program's folder; its status, and parts
 # of what it writes on both streams. $S is the program.
+TRAPPED = ("printf 'call Main Parser next_kind\\nin Parser -524288\\nin Parser 5\\nstop trap owner 0x0130006c\\nchain "
+           "0\\ntrapped Parser OutOfBounds line 15\\n' | ")
+GIVEN = (f"sed 's/= v;/= v + 1;/' {STORE} > other.c; ($S compile < other.c; cat {STORE}) | $S explain --image | ")
 EXPLAIN = f"$S explain --in=-524288,5,0 < {MESSAGES} | "
 USES = [
     # check-runs
@@ -72,6 +86,14 @@ USES = [
     ("tools/check-runs", 2, ["required"]),
     ("tools/check-runs eat.c many2", 2, ["many2"]),
     (f"tools/check-runs {MESSAGES} lists | head -n 1", 0, ["line 2"]),
+    ("tools/check-runs examples/full.c empty_line", 1, ["the source is blamed for nothing: a stack is full"]),
+    ("tools/check-runs examples/endless.c empty_line", 1, ["the run doesn't end: raise --events"]),
+    *((f"tools/check-runs $CASES/{it}.c $CASES/{it}.in --allow $CASES/{it}.found", 0, ["runs, 0 with findings\n"])
+      for it in ("gate", "vm", "book")),
+    *((f"tools/check-runs $CASES/{it}.c $CASES/{it}.in", 1, ["4 with findings"]) for it in ("gate", "vm", "book")),
+    ("tools/check-runs $CASES/gate.c good $CASES/gate.policy", 0, ["1 runs, 0 with findings, 2 policies"]),
+    ("tools/check-runs $CASES/gate.c $CASES/gate.in $CASES/gate.policy", 1,
+     ["gate.policy:6: line 4: LoggedIn is violated by event 29, `call Main Keys set_key 0 1 2`"]),
     # policy
     (f"tools/policy {STORE} friendly.policy", 0, ["Bounds: 1 states, 2 rules, no faults", "Inside: 1 states, 3 rules"]),
     (f"tools/policy --plain --name Inside {STORE} friendly.policy | cat - {STORE} | $S judge | tail -n 1", 0,
@@ -82,6 +104,8 @@ USES = [
     (f"tools/policy {MESSAGES} hidden.policy", 1, ["hidden.policy:3: the state t can't be reached",
                                                   "hidden.policy:5: no event comes to this rule"]),
     (f"tools/policy {STORE} cut.policy", 2, ["cut.policy:1: the policy P has no line `policy end`"]),
+    (f"tools/policy {STORE} one_name.policy", 2,
+     ["one_name.policy:3: '>' is no name: the event is `ret CALLEE CALLER`"]),
     (f"tools/policy {STORE} function.policy", 2, ["a policy can't tell by which function is returned"]),
     (f"tools/policy {STORE} and.policy", 2, ["and.policy:4: `and` can't be put into the plain form here, as the rule "
                                              "of line 5"]),
@@ -125,8 +149,18 @@ USES = [
     ("cat examples/policies/bounds.policy examples/store.c | $S judge | tools/where examples/store.c --full --policy "
      "examples/policies/bounds.policy", 0,
      ["event 1: call Main Net put 4 9", "bounds.policy:4: on all call * Net put arg 1 > 3 deny"]),
+    (f"tools/policy --plain --name Second {STORE} two.policy | cat - {STORE} | $S judge | tools/where {STORE} --full "
+     "--policy two.policy --name Second", 0, ["two.policy:8: on a call * Net put arg 1 > 3 deny"]),
+    (f"tools/policy --plain --name Second {STORE} two.policy | cat - {STORE} | $S judge | tools/where {STORE} --full "
+     "--policy two.policy", 2, ["two.policy: 2 policies; choose one with --name"]),
     ("$S explain < inner.c | tools/where --full inner.c", 0,
      ["inner.c:5: after event 0: the index 4 leaves pin of 4 elements"]),
+    (f"tools/where --full {STORE} < none", 2, ["standard input has no report: ./secomp explain < examples/store.c"]),
+    (f"$S explain < inner.c | head -n 0 | tools/where --full {STORE}", 2, ["standard input has no report"]),
+    (TRAPPED + f"tools/where --full {MESSAGES}", 0,
+     ["trapped Parser OutOfBounds line 15    examples/messages.c:76: fields[field] = input();",
+      "index -524288 of fields, a global of 3 cells"]),
+    (GIVEN + f"tools/where --full {STORE}", 0, ["given Net\nchain 0", "nothing more is said"]),
     # sanitized
     ("tools/sanitized inner.c", 1, ["inner.c:5: runtime error: index 4 out of bounds"]),
     (f"tools/sanitized {MESSAGES} numbers", 0, ["out Log 10"]),
@@ -134,6 +168,9 @@ USES = [
     ("tools/sanitized inner.c --compiler cc1", 2, ["invalid choice"]),
     # why
     ("tools/why --lint inner.c", 1, ["inner.c:5: pin has 4 elements, and the index 4 is past them"]),
+    ("tools/why --lint bounds.c; tools/why --lint bounds.c | wc -l", 1,
+     ["bounds.c:10: a lies within a larger variable and has 4 elements, but i may be up to 4", "\n2\n",
+      "bounds.c:12: a lies within a larger variable and has 4 elements, but n isn't bounded from above"]),
     ("tools/why inner.c", 0, ["inner.c: accepted"]),
     (f"tools/why {REFUSED}", 1, ["refused.c:6:3: types"]),
     (f"tools/why {REFUSED} | head -n 1", 0, ["refused.c:6:3"]),
@@ -153,20 +190,29 @@ USES = [
      ["against the policy, rule 2, clean"]),
     (f"$S explain < {STORE} | examples/draw --html nosuch.c", 2, ["nosuch.c: No such file"]),
     ("examples/draw < good", 2, ["draw: line 1"]),
+    (GIVEN + "examples/draw", 0, ["Note over C1: given: other code than the program's"]),
+    (TRAPPED + "examples/draw", 0, ["stop trap owner 0x0130006c, trapped Parser OutOfBounds line 15"]),
+    ("printf 'stop ended\\nchain 0\\ntrapped Main stack\\n' | examples/draw", 2, ["draw: line 3"]),
     (f"$S explain < {STORE} | examples/draw --html {STORE} | head -n 1", 0, ["<!doctype html>"]),
 ]
 HELPED = ["tools/check-runs", "tools/policy", "tools/campaign", "tools/run", "tools/bytes", "tools/where", "tools/why",
-          "tools/image", "tools/sanitized", "tools/language_server", "examples/draw"]
+          "tools/image", "tools/sanitized", "tools/language_server", "tools/attack", "tools/secret", "tools/foreign",
+          "tools/port", "examples/draw"]
 HELPED += [f"tools/{name}.py" for name in (
-    "bad_input_tests checked elide ends evaluation_tests fast fast_tests language_tests lemmas mistakes pages "
-    "policy_tests real refuse_allocations sessions stub tool_sessions trusted unused use_tests wrapper_tests").split()]
+    "attack_sessions bad_input_tests checked elide ends evaluation_tests fast fast_tests foreign_libraries "
+    "foreign_sessions language_tests lemmas mistakes out_of_memory pages policy_tests port_libraries port_sessions "
+    "port_torture real refuse_allocations repeated sessions source_tests stub tool_sessions trusted unused use_tests "
+    "wrapper_tests").split()]
+HELPED += [f"bench/{name}.py" for name in (
+    "chains each_byte exec folding gate given hostile judge limits outsider riscv_loops trapped turns zone").split()]
 for TOOL in HELPED:
     WORDS = f"{'python3 ' * TOOL.endswith('.py')}{TOOL}"
     USES += [(f"{WORDS} --help", 0, [os.path.basename(TOOL)]), (f"{WORDS} --no-such-option", 2, [])]
 
 
 def run(command, folder):
-    places = {**os.environ, "S": program(), "SECOMP": program(), "XDG_CACHE_HOME": f"{folder}/cache"}
+    places = {**os.environ, "S": program(), "SECOMP": program(), "CASES": f"{TOP}/tools/trial_cases",
+              "XDG_CACHE_HOME": f"{folder}/cache"}
     ran = subprocess.run(["bash", "-o", "pipefail", "-c", command], cwd=folder, env=places, stdin=subprocess.DEVNULL,
                          stdout=subprocess.PIPE, stderr=subprocess.STDOUT, check=False)
     return ran.stdout.decode(errors="replace"), ran.returncode
@@ -202,11 +248,30 @@ def formats(folder):
     named = all(rules[it["ruleIndex"]] == it["ruleId"] for it in results)
     right = log["version"] == "2.1.0" and lines == [76, 76] and named
     yield "" if right else f"--sarif: {wrote}"
+    wrote, _ = run(f"cp {MESSAGES} 'a text.c'; tools/check-runs 'a text.c' lists --sarif", folder)
+    yield "" if '"uri": "a%20text.c"' in wrote else f"--sarif, a path with a blank: {wrote}"
+
+
+def hook(folder):
+    """The hook of docs/BUILD.md, in a repository of its own: it lets no fault through, and then the mended text."""
+    with open(f"{TOP}/docs/BUILD.md", encoding="utf-8") as it:
+        script = re.search(r"(    #!/bin/sh\n(?:    .*\n)+)", it.read())[1].replace("/opt/secomp", TOP)
+    os.makedirs(f"{folder}/repository")
+    run("cd repository; git init -q .; mkdir policies; cp ../examples/policies/key.policy policies; cp ../good inputs; "
+        "cp ../examples/messages.c program.c; git add .", folder)
+    with open(f"{folder}/repository/.git/hooks/pre-commit", "w", encoding="utf-8") as it:
+        it.write(re.sub("^    ", "", script, flags=re.M))
+    os.chmod(f"{folder}/repository/.git/hooks/pre-commit", 0o755)
+    commit = "git -c user.name=a -c user.email=a@b commit -qam next"
+    for change, wanted in (("true", 0), ("sed -n 2p ../lists > inputs", 1),
+                           ("cp ../good inputs; echo '}' >> program.c", 1)):
+        wrote, status = run(f"cd repository; {change}; {commit}", folder)
+        yield "" if status == wanted else f"the hook, after `{change}`: status {status}\n{wrote}"
 
 
 def answers():
     with tempfile.TemporaryDirectory() as folder:
-        for name in ("tools", "examples"):
+        for name in ("tools", "examples", "bench"):
             os.symlink(f"{TOP}/{name}", f"{folder}/{name}")
         for name, text in FILES.items():
             with open(f"{folder}/{name}", "w", encoding="utf-8", newline="") as it:
@@ -214,6 +279,7 @@ def answers():
         with ThreadPoolExecutor(2) as pool:
             yield from pool.map(lambda use: answer(use, folder), USES)
         yield from formats(folder)
+        yield from hook(folder)
 
 
 if __name__ == "__main__":

@@ -23,15 +23,21 @@ def refused(text):
 
 def faults_of(text):
     """The faults of the first phase that has any. Of lex and syntax a section has one, and the next is found with the
-    line of the last one blanked; one at a blanked line comes from the blanking, and is none."""
+    line of the last one blanked, up to braces whose partner is on another line; one at a blanked line comes from the
+    blanking, and is none."""
     found = list(Program(text).faults)
     if not found or found[0].phase not in ("lex", "syntax"):
         return found
     lines, blanked = text.split("\n"), set()
     while len(found) < MOST:
         blanked |= {line for fault in found for line in (fault.line, fault.at)}
+        for fault in found:
+            # all that stands before the first section is one fault
+            blanked |= set(range(1, len(fault.part.section.lines))) if fault.part.section.first == 0 else set()
         for number in blanked:
-            lines[number - 1] = re.sub(r"[^{}]", " ", lines[number - 1])
+            line = lines[number - 1]
+            is_whole = line.count("{") == line.count("}") and not line.lstrip().startswith("}")
+            lines[number - 1] = " " * len(line) if is_whole else re.sub(r"[^{}]", " ", line)
         more = [fault for fault in Program("\n".join(lines)).faults
                 if fault.phase == found[0].phase and not blanked & {fault.line, fault.at}]
         if not more:
@@ -61,6 +67,15 @@ def guessed(phase, line, text):
     return Fault(phase, at, indent + 1, said[0]), said[1:]
 
 
+def looked_at(line, column):
+    """The part of a line that tells why no token begins at a column: a sign that is none, or all of the line."""
+    sign = line[column - 1:column]
+    if sign in "'\"?:\\@$`" or not sign.isascii():
+        return sign
+    # what stands in a directive's quotes isn't what is wrong with it
+    return re.sub("[\"']", " ", line) if sign == "#" else line
+
+
 def faults(data, text):
     """The faults of a text, each with other reasons that it may have; none where it is accepted."""
     said = refused(data)
@@ -72,8 +87,5 @@ def faults(data, text):
     lines = text.split("\n")
     for fault in found:
         if fault.phase == "lex":
-            line = lines[fault.line - 1]
-            # what stands in a directive's quotes isn't what is wrong with it
-            looked_at = re.sub("[\"']", " ", line) if line[fault.column - 1:fault.column] == "#" else line
-            fault.text = (reasons("lex", looked_at) or [fault.text])[0]
+            fault.text = (reasons("lex", looked_at(lines[fault.line - 1], fault.column)) or [fault.text])[0]
     return [(fault, []) for fault in found[:MOST]]

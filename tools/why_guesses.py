@@ -4,6 +4,7 @@ import re
 
 # What stands in the line, by phase, and what it means: the first that fits comes first.
 REASONS = [
+    ("lex", r"^\ufeff", "the file begins with a byte order mark: save it as UTF-8 without one"),
     ("lex", r"'", "a character constant: write its number, as 65 for 'A'"),
     ("lex", r'"', "a string: there are none; keep an array of int and fill it with numbers"),
     ("lex", r"^\s*#\s*(define|undef)\b", "no preprocessing: write the number, or a global, in place of a macro"),
@@ -28,6 +29,7 @@ REASONS = [
      "of suffixes there is u: int and unsigned int have 32 bits"),
     ("lex", r"\b\d+\.\d*|\.\d+", "no floating point"),
     ("lex", r"\b\d+[eE][+-]?\d+", "no floating point"),
+    ("lex", r"-\s*2147483648\b", "the least int is 0x80000000: 2147483648 itself is no int"),
     ("lex", r"\b\d{10,}[uU]?\b", "a decimal integer without u is at most 2147483647; with u 4294967295"),
     ("lex", r":", "no labels, no switch, no bit fields: a colon is no token"),
     ("lex", r"\\", "no lines that go on on the next one"),
