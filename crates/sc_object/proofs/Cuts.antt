@@ -298,16 +298,3 @@ module _ (bytes : List ℕ) where
       nothing : (rest : List ℕ) → length rest ≡ 0 → rest ≡ []
       nothing [] none = refl
       nothing (byte ∷ rest) none = absurd (omega (arith, none))
-
-  pub is_bad : (objects : List ObjectParts) (rest : List ℕ) (index : ℕ) (cause : BadObject) →
-      IsReading bytes objects rest → 0 < length rest → index ≡ length objects → object_at rest ≡ Err cause →
-      IsFirstBad bytes index cause
-  is_bad objects rest index cause so_far left number bad =
-      subst (λ n. IsFirstBad bytes n cause) (sym number)
-      (first_bad bytes rest objects cause so_far.each so_far.are (inr left) bad)
-
-  pub is_bad_first : (before : List ObjectParts) (index : ℕ) (cause : BadObject) → before ≡ [] →
-      index ≡ length before → object_at bytes ≡ Err cause → IsFirstBad bytes index cause
-  is_bad_first before index cause none number bad =
-      subst (λ n. IsFirstBad bytes n cause) (sym (number ∙ ap length none))
-      (first_bad bytes bytes [] cause tt refl (inl refl) bad)

@@ -49,11 +49,3 @@ pub no_fault : (head : ObjectParts) (later : List ObjectParts) → differ_from h
 no_fault head later same once all =
     ap (λ o. option_or o (later_fault head (head ∷ later))) same ∙
     (ap (λ o. option_or o (missing_from (head ∷ later) 0 (length head.faces))) once ∙ all)
-
-pub has_none : (objects : List ObjectParts) (head : ObjectParts) → CanBeJoined head objects → join_fault objects ≡ None
-has_none [] head can = refl
-has_none (other ∷ objects) head can =
-    let first = can.first in
-    let same : other ≡ head = cc first in
-    no_fault other objects (subst (λ h. differ_from h 0 (other ∷ objects) ≡ None) (sym same) can.same) can.once
-    (subst (λ h. missing_from (other ∷ objects) 0 (length h.faces) ≡ None) (sym same) can.all)

@@ -23,24 +23,8 @@ module _ (objects list : List ObjectParts) (head : ObjectParts) (same : list ≡
   pub few_faces : length head.faces ≤ 32
   few_faces = (all_here IsObject list list_good.each 0 head head_there).few_comps
 
-  pub can_be : differ_from head 0 list ≡ None → twice_from [] 0 list ≡ None →
-      missing_from list 0 (length head.faces) ≡ None → CanBeJoined head list
-  can_be says once all = record {
-    first = head_there;
-    each = list_good.each;
-    same = says;
-    once = once;
-    all = all;
-  }
-
   pub joins : (image : ImageParts) → image ≡ join_as head list → IsJoined objects image
   joins image is = subst (λ all. IsJoined all image) same (record { head = head; first = head_there; joined = is })
-
-  pub faultless : CanBeJoined head list → join_fault objects ≡ None
-  faultless can = subst (λ all. join_fault all ≡ None) same (has_none list head can)
-
-  pub owns : (image : ImageParts) → All (HasOwn image) list → All (HasOwn image) objects
-  owns image own = subst (λ all. All (HasOwn image) all) same own
 
   pub differs : (fault : JoinFault) → differ_from head 0 list ≡ Some fault → IsJoinFault objects fault
   differs fault found = subst (λ all. IsJoinFault all fault) same (differs_first list head fault head_there found)

@@ -213,13 +213,6 @@ module _ (table : ℕ → Assigned) (constants : ℕ → Option Constant) (sourc
             (ap (λ b. not (b || false)) (other_way k.t d m)) k.holds);
       })
 
-  -- fresh where no loop is inside
-  none_inside : {first : ℕ → Ahead → Bool} {o : Option TacStmt} {known : ℕ → Assigned} →
-      ((aheads : ℕ → Ahead) (ahead : Ahead) → Over aheads ahead → read_of o ahead ≡ true →
-      Some_at (λ t. first t (aheads t))) → ((ahead : Ahead) → fresh_of o ahead ≡ true) →
-      Lifts known first (λ t ahead. true) o
-  none_inside live fresh = record { live = live; begins = λ aheads ahead over h. fresh ahead }
-
   rolled_first : (k : TacStmt-F TacStmt) (ahead : Ahead) →
       (reading x (roll-TacStmt k)).first ahead ≡ (reading_step x (map-TacStmt _ _ (reading x) k)).first ahead
   rolled_first k ahead = ap (λ r. r.first ahead) (fold-roll-TacStmt Reading (reading_step x) k)
@@ -227,10 +220,6 @@ module _ (table : ℕ → Assigned) (constants : ℕ → Option Constant) (sourc
   rolled_fresh : (k : TacStmt-F TacStmt) (ahead : Ahead) →
       (reading x (roll-TacStmt k)).fresh ahead ≡ (reading_step x (map-TacStmt _ _ (reading x) k)).fresh ahead
   rolled_fresh k ahead = ap (λ r. r.fresh ahead) (fold-roll-TacStmt Reading (reading_step x) k)
-
-  -- a statement that is kept or goes where what it assigns isn't read
-  abbrev kept_or : ℕ → Bool → TacStmt-F TacStmt → Option TacStmt
-  kept_or d u k = keep_if u k
 
   kept_lifts : (known : ℕ → Assigned) (reads : List ℕ) (d : ℕ) (k : TacStmt-F TacStmt) (now : List ℕ) → source d ≡ d →
       ((y : ℕ) → is_one y now ≡ true → is_one y (map source reads) ≡ true) →

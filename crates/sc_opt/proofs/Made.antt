@@ -90,13 +90,6 @@ later_pass f passed next before after last made less is old new =
       by true same = absurd (apart (eqb-true after before same))
       by false same = refl
 
-pub no_more : (f passed : TacFnTree) (before after : ℕ) → optimised_function f ≡ rest_of before after passed →
-    before ≤ after → after ≤ before → passed ≡ optimised_function f
-no_more f passed before after made h k = sym (made
-    ∙ ap (λ b. if b then passed else optimised_function passed) (eq-eqb after before same)) where
-      same : after ≡ before
-      same = omega (arith, h, k)
-
 pub fewer : (f passed : TacFnTree) (before after : ℕ) → passed ≡ changed_function one_pass f → before ≡ weight_of f →
     after ≡ weight_of passed → after ≤ before
 fewer f passed before after is old new = at (weight (one_pass f.body)) (weight f.body) (entry_weight f.params)

@@ -77,17 +77,6 @@ module _ (constants : ℕ → Option Constant) (source : ℕ → ℕ) where
     abbrev Reads : List ℕ → Type 0
     Reads temps = (x : ℕ) → slice_get b x ≡ marked (reads_some source x temps) (slice_get a x)
 
-    abbrev ReadsOne : ℕ → Type 0
-    ReadsOne temp = (x : ℕ) → slice_get b x ≡ marked (source temp == x) (slice_get a x)
-
-    one_read : (temp : ℕ) → ReadsOne temp → Reads (temp ∷ [])
-    one_read temp h = λ x. h x ∙ ap (λ r. marked r (slice_get a x)) (sym (or_false (source temp == x)))
-
-    pub copy_marked : (d from : ℕ) → stmt ≡ emit.Copy d from → ((x : ℕ) → slice_get b x ≡
-        marked (not (source d == source from) && source from == x) (slice_get a x)) → Marks stmt a b
-    copy_marked d from is h = plain_marked stmt (tac.Copy d from) a b (emit.rolls-Copy d from ∙ sym is)
-        (λ x. not (source d == source from) && source from == x) (λ x. refl) h
-
     pub op_marked : (d : ℕ) (o : TacOp) (left : ℕ) (right : Option ℕ) → stmt ≡ emit.Op d o left right →
         ((x : ℕ) → slice_get b x ≡ marked (reads_unless source (folded constants o left right) x
         (left ∷ one_or_none right))
@@ -95,42 +84,6 @@ module _ (constants : ℕ → Option Constant) (source : ℕ → ℕ) where
     op_marked d o left right is h = plain_marked stmt (tac.Op d o left right) a b
         (emit.rolls-Op d o left right ∙ sym is)
         (λ x. reads_unless source (folded constants o left right) x (left ∷ one_or_none right)) (λ x. refl) h
-
-    pub load_marked : (d place : ℕ) (pointer : Bool) → stmt ≡ emit.Load d place pointer → ReadsOne place →
-        Marks stmt a b
-    load_marked d place pointer is h = plain_marked stmt (tac.Load d place pointer) a b
-        (emit.rolls-Load d place pointer ∙ sym is) (λ x. reads_some source x (place ∷ [])) (λ x. refl)
-        (one_read place h)
-
-    pub store_marked : (place value : ℕ) → stmt ≡ emit.Store place value → Reads (place ∷ value ∷ []) → Marks stmt a b
-    store_marked place value is h = plain_marked stmt (tac.Store place value) a b
-        (emit.rolls-Store place value ∙ sym is) (λ x. reads_some source x (place ∷ value ∷ [])) (λ x. refl) h
-
-    pub own_marked : (dest : Option ℕ) (function : ℕ) (args : List ℕ) → stmt ≡ emit.CallOwn dest function args →
-        Reads args → Marks stmt a b
-    own_marked dest function args is h = plain_marked stmt (tac.CallOwn dest function args) a b
-        (emit.rolls-CallOwn dest function args ∙ sym is) (λ x. reads_some source x args) (λ x. refl) h
-
-    pub cross_marked : (dest : Option ℕ) (comp index : ℕ) (args : List ℕ) →
-        stmt ≡ emit.CallCross dest comp index args → Reads args → Marks stmt a b
-    cross_marked dest comp index args is h = plain_marked stmt (tac.CallCross dest comp index args) a b
-        (emit.rolls-CallCross dest comp index args ∙ sym is) (λ x. reads_some source x args) (λ x. refl) h
-
-    pub output_marked : (value : ℕ) → stmt ≡ emit.Output value → ReadsOne value → Marks stmt a b
-    output_marked value is h = plain_marked stmt (tac.Output value) a b (emit.rolls-Output value ∙ sym is)
-        (λ x. reads_some source x (value ∷ [])) (λ x. refl) (one_read value h)
-
-    pub alloc_marked : (d count words : ℕ) → stmt ≡ emit.Alloc d count words → ReadsOne count → Marks stmt a b
-    alloc_marked d count words is h = plain_marked stmt (tac.Alloc d count words) a b
-        (emit.rolls-Alloc d count words ∙ sym is) (λ x. reads_some source x (count ∷ [])) (λ x. refl) (one_read count h)
-
-    pub free_marked : (pointer : ℕ) → stmt ≡ emit.Free pointer → ReadsOne pointer → Marks stmt a b
-    free_marked pointer is h = plain_marked stmt (tac.Free pointer) a b (emit.rolls-Free pointer ∙ sym is)
-        (λ x. reads_some source x (pointer ∷ [])) (λ x. refl) (one_read pointer h)
-
-    pub return_marked : (value : Option ℕ) → stmt ≡ emit.Return value → Reads (one_or_none value) → Marks stmt a b
-    return_marked value is h = plain_marked stmt (tac.Return value) a b (emit.rolls-Return value ∙ sym is)
-        (λ x. reads_some source x (one_or_none value)) (λ x. refl) h
 
   -- parts
   pub if_marked : (stmt : TacStmt) (a b c d : List Bool) (cond : ℕ) (p q : List TacStmt) → stmt ≡ emit.If cond p q →
@@ -156,10 +109,3 @@ module _ (constants : ℕ → Option Constant) (source : ℕ → ℕ) where
       ∙ marked_twice v w (marked u (slice_get a x))
       ∙ marked_twice u (v || w) (slice_get a x)
       ∙ ap (λ e. marked (u || (v || e)) (slice_get a x)) (sym (or_false w)))
-
-  -- what reads nothing
-  pub nothing_marked : (stmt : TacStmt) (layer : TacStmt-F TacStmt) (a : List Bool) → roll-TacStmt layer ≡ stmt →
-      ((x : ℕ) → reads_within constants source x (map-TacStmt _ _ (reads_stmt constants source x) layer) ≡ false) →
-      Marks stmt a a
-  nothing_marked stmt layer a is none =
-      by_layer stmt layer a a is (λ x. ap (λ r. marked r (slice_get a x)) (sym (none x)))

@@ -43,10 +43,6 @@ and_true : (a : Bool) → (a && true) ≡ a
 and_true true = refl
 and_true false = refl
 
-or_false : (a : Bool) → (a || false) ≡ a
-or_false true = refl
-or_false false = refl
-
 abbrev facts : Assigned → Bool → Facts
 facts a w = record { assigned = a; holds_word = w }
 
@@ -59,12 +55,6 @@ fact_twice a b v w (Some known) = ap₂ (λ x y. Some (facts x y)) (joined_assoc
 pub no_fact : (known : Option Facts) → option_map (with_fact Nowhere true) known ≡ known
 no_fact None = refl
 no_fact (Some known) = ap₂ (λ x y. Some (facts x y)) (joined_nothing known.assigned) (and_true known.holds_word)
-
--- one assignment, here or elsewhere
-one_fact : (here : Bool) (how : Assigned) (word : Bool) (known : Option Facts) →
-    noted here how word known ≡ option_map (with_fact (if here then how else Nowhere) (not here || word)) known
-one_fact true how word known = refl
-one_fact false how word known = sym (no_fact known)
 
 -- a fact is set
 pub fact_set : (table after : List Facts) (temp : ℕ) (known fact : Facts) (how : Assigned) (word : Bool) →
@@ -118,98 +108,6 @@ by_layer stmt layer a b is h = record {
       (sym (fold-roll-TacStmt Bool (with_parts (assigns_words t)) layer) ∙ ap (words_alone t) is);
 }
 
-module _ (stmt : TacStmt) (a b : List Facts) where
-  const_alone : (d : ℕ) (value : Constant) → stmt ≡ emit.Const d value →
-      ((t : ℕ) → slice_get b t ≡ noted (d == t) (ByConstant value) (is_word_constant value) (slice_get a t)) →
-      NotesStmt stmt a b
-  const_alone d value is h = by_layer stmt (tac.Const d value) a b (emit.rolls-Const d value ∙ sym is) (λ t.
-      h t ∙ one_fact (d == t) (ByConstant value) (is_word_constant value) (slice_get a t)
-      ∙ ap (λ w. option_map (with_fact (if d == t then ByConstant value else Nowhere) w) (slice_get a t))
-      (sym (and_true (not (d == t) || is_word_constant value))))
-
-  pub const_noted : (d : ℕ) (value : Constant) (word : Bool) → stmt ≡ emit.Const d value →
-      word ≡ is_word_constant value →
-      ((t : ℕ) → slice_get b t ≡ noted (d == t) (ByConstant value) word (slice_get a t)) → NotesStmt stmt a b
-  const_noted d value word is same h = const_alone d value is (subst (λ w. (t : ℕ) →
-      slice_get b t ≡ noted (d == t) (ByConstant value) w (slice_get a t)) same h)
-
-  pub copy_noted : (d from : ℕ) → stmt ≡ emit.Copy d from →
-      ((t : ℕ) → slice_get b t ≡ noted (d == t) (ByCopy from) false (slice_get a t)) → NotesStmt stmt a b
-  copy_noted d from is h = by_layer stmt (tac.Copy d from) a b (emit.rolls-Copy d from ∙ sym is) (λ t.
-      h t ∙ one_fact (d == t) (ByCopy from) false (slice_get a t)
-      ∙ ap (λ w. option_map (with_fact (if d == t then ByCopy from else Nowhere) w) (slice_get a t)) (words t)) where
-        words : (t : ℕ) → (not (d == t) || false) ≡ (not (d == t || false) && true)
-        words t = or_false (not (d == t)) ∙ ap not (sym (or_false (d == t))) ∙ sym (and_true (not (d == t || false)))
-
-  -- assigned otherwise, as the test of words of the statement says
-  otherwise_noted : (d : ℕ) (word : Bool) (layer : TacStmt-F TacStmt) → roll-TacStmt layer ≡ stmt →
-      ((t : ℕ) → assigned_step t (map-TacStmt _ _ (assigned t) layer) ≡
-      (if d == t || false then Otherwise else Nowhere)) →
-      ((t : ℕ) → with_parts (assigns_words t) (map-TacStmt _ _ (words_alone t) layer) ≡ (not (d == t) || word)) →
-      ((t : ℕ) → slice_get b t ≡ noted (d == t) Otherwise word (slice_get a t)) → NotesStmt stmt a b
-  otherwise_noted d word layer is step words h = by_layer stmt layer a b is (λ t.
-      h t ∙ one_fact (d == t) Otherwise word (slice_get a t)
-      ∙ ap₂ (λ x w. option_map (with_fact x w) (slice_get a t))
-      (ap (λ e. if e then Otherwise else Nowhere) (sym (or_false (d == t))) ∙ sym (step t)) (sym (words t)))
-
-  none_words : (d t : ℕ) → (not (d == t || false) && true) ≡ (not (d == t) || false)
-  none_words d t = and_true (not (d == t || false)) ∙ ap not (or_false (d == t)) ∙ sym (or_false (not (d == t)))
-
-  pub op_noted : (d : ℕ) (o : TacOp) (left : ℕ) (right : Option ℕ) → stmt ≡ emit.Op d o left right →
-      ((t : ℕ) → slice_get b t ≡ noted (d == t) (ByOperator o left right) (gives_word o) (slice_get a t)) →
-      NotesStmt stmt a b
-  op_noted d o left right is h = by_layer stmt (tac.Op d o left right) a b (emit.rolls-Op d o left right ∙ sym is) (λ t.
-      h t ∙ one_fact (d == t) (ByOperator o left right) (gives_word o) (slice_get a t)
-      ∙ ap (λ w. option_map (with_fact (if d == t then ByOperator o left right else Nowhere) w) (slice_get a t))
-      (sym (and_true (not (d == t) || gives_word o))))
-
-  pub object_noted : (d object : ℕ) → stmt ≡ emit.ObjectPlace d object →
-      ((t : ℕ) → slice_get b t ≡ noted (d == t) Otherwise false (slice_get a t)) → NotesStmt stmt a b
-  object_noted d object is h = otherwise_noted d false (tac.ObjectPlace d object)
-      (emit.rolls-ObjectPlace d object ∙ sym is) (λ t. refl) (none_words d) h
-
-  pub global_noted : (d global : ℕ) → stmt ≡ emit.GlobalPlace d global →
-      ((t : ℕ) → slice_get b t ≡ noted (d == t) Otherwise false (slice_get a t)) → NotesStmt stmt a b
-  global_noted d global is h = otherwise_noted d false (tac.GlobalPlace d global)
-      (emit.rolls-GlobalPlace d global ∙ sym is) (λ t. refl) (none_words d) h
-
-  pub load_noted : (d place : ℕ) (pointer : Bool) → stmt ≡ emit.Load d place pointer →
-      ((t : ℕ) → slice_get b t ≡ noted (d == t) Otherwise (not pointer) (slice_get a t)) → NotesStmt stmt a b
-  load_noted d place pointer is h = otherwise_noted d (not pointer) (tac.Load d place pointer)
-      (emit.rolls-Load d place pointer ∙ sym is) (λ t. refl) (λ t. and_true (not (d == t) || not pointer)) h
-
-  pub alloc_noted : (d count words : ℕ) → stmt ≡ emit.Alloc d count words →
-      ((t : ℕ) → slice_get b t ≡ noted (d == t) Otherwise false (slice_get a t)) → NotesStmt stmt a b
-  alloc_noted d count words is h = otherwise_noted d false (tac.Alloc d count words)
-      (emit.rolls-Alloc d count words ∙ sym is) (λ t. refl) (none_words d) h
-
-  -- calls
-  result_fact : (dest : Option ℕ) (t : ℕ) (known : Option Facts) →
-      noted (is_one t (one_or_none dest)) Otherwise false known
-      ≡ option_map (with_fact (if is_one t (one_or_none dest) then Otherwise else Nowhere)
-      (not (is_one t (one_or_none dest)) && true)) known
-  result_fact dest t known = one_fact (is_one t (one_or_none dest)) Otherwise false known
-      ∙ ap (λ w. option_map (with_fact (if is_one t (one_or_none dest) then Otherwise else Nowhere) w) known)
-      (or_false (not (is_one t (one_or_none dest))) ∙ sym (and_true (not (is_one t (one_or_none dest)))))
-
-  abbrev ResultNoted : Option ℕ → Type 0
-  ResultNoted dest =
-      (t : ℕ) → slice_get b t ≡ noted (is_one t (one_or_none dest)) Otherwise false (slice_get a t)
-
-  pub own_noted : (dest : Option ℕ) (function : ℕ) (args : List ℕ) → stmt ≡ emit.CallOwn dest function args →
-      ResultNoted dest → NotesStmt stmt a b
-  own_noted dest function args is h = by_layer stmt (tac.CallOwn dest function args) a b
-      (emit.rolls-CallOwn dest function args ∙ sym is) (λ t. h t ∙ result_fact dest t (slice_get a t))
-
-  pub cross_noted : (dest : Option ℕ) (comp index : ℕ) (args : List ℕ) → stmt ≡ emit.CallCross dest comp index args →
-      ResultNoted dest → NotesStmt stmt a b
-  cross_noted dest comp index args is h = by_layer stmt (tac.CallCross dest comp index args) a b
-      (emit.rolls-CallCross dest comp index args ∙ sym is) (λ t. h t ∙ result_fact dest t (slice_get a t))
-
-  pub input_noted : (dest : Option ℕ) → stmt ≡ emit.Input dest → ResultNoted dest → NotesStmt stmt a b
-  input_noted dest is h = by_layer stmt (tac.Input dest) a b (emit.rolls-Input dest ∙ sym is)
-      (λ t. h t ∙ result_fact dest t (slice_get a t))
-
 -- parts
 pub if_noted : (stmt : TacStmt) (a b c : List Facts) (cond : ℕ) (x y : List TacStmt) → stmt ≡ emit.If cond x y →
     NotesAll x a b → NotesAll y b c → NotesStmt stmt a c
@@ -233,10 +131,3 @@ loop_noted stmt a b c d x y z is h k l =
     ∙ fact_twice (assigned_in t x) (joined (assigned_in t y) (assigned_in t z)) p (q && r) (slice_get a t)
     ∙ ap (λ w. option_map (with_fact (joined (assigned_in t x) (joined (assigned_in t y) (assigned_in t z)))
     (p && (q && w))) (slice_get a t)) (sym (and_true r)))
-
--- what assigns nothing
-pub nothing_noted : (stmt : TacStmt) (layer : TacStmt-F TacStmt) (a : List Facts) → roll-TacStmt layer ≡ stmt →
-    ((t : ℕ) → assigned_step t (map-TacStmt _ _ (assigned t) layer) ≡ Nowhere) →
-    ((t : ℕ) → with_parts (assigns_words t) (map-TacStmt _ _ (words_alone t) layer) ≡ true) → NotesStmt stmt a a
-nothing_noted stmt layer a is step words = by_layer stmt layer a a is (λ t. sym (no_fact (slice_get a t))
-    ∙ ap₂ (λ x w. option_map (with_fact x w) (slice_get a t)) (sym (step t)) (sym (words t)))

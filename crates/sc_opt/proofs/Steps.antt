@@ -146,9 +146,6 @@ module _ (table : ℕ → Assigned) (constants : ℕ → Option Constant) (sourc
         pub here_is : read_all here ts a s ≡ Reached values s
         pub there_is : read_all here (map source ts) b s ≡ Reached values s
 
-      one_more : (ts : List ℕ) (v : Value) → Piece (List Value) → Piece (List Value)
-      one_more ts v o = and_then o (λ vs s. Reached (v ∷ vs) s)
-
       pub reads_all : (ts : List ℕ) → ((t : ℕ) → is_one t ts ≡ true → first t ≡ true) →
           all_used source used ts ≡ true → (s : State) → ReadsAll ts s
       reads_all [] live all s = record { values = []; here_is = refl; there_is = refl }

@@ -82,9 +82,3 @@ module _ (tags : ℕ → ByteTag) (wanted : ByteTag) (a : ℕ) where
   all_more place all here =
       let more : place + 1 ≡ suc place = omega arith in
       ap (all_tagged tags wanted a) more ∙ rw (all, here) refl
-
--- a compartment that is there has a small number
-pub few_there : (image : ImageParts) (c : ℕ) (comp : CompPart) → IsWellFormed image →
-    slice_get image.comps c ≡ Some comp → c < 32
-few_there image c comp formed found = let within = slice_get_within image.comps c comp found in
-    let few = formed.few_comps in omega (arith, within, few)

@@ -39,21 +39,6 @@ module _ {A : Type 0} (image : ImageParts) (state : MachineState) (result : Resu
       record { other = λ index at. ne_eqb (comp_of_code target) state.active other } in
       lift_outcome result left _ is ∙ sym (calls_same image same_memory state rd target not_own)
 
--- a jump into the own compartment, but not to its code
-own_by : (image : ImageParts) (tagged : Tagged) (to target : ℕ) (index : Option ℕ) → to ≡ tagged.core.active →
-    carried_called image tagged to target index ≡ Traps BadJump
-own_by image tagged to target None own = refl
-own_by image tagged to target (Some index) own = rw (eq-eqb to tagged.core.active own) refl
-
-pub own_jump : (image : ImageParts) (tagged : Tagged) (rd target : ℕ) → comp_of_code target ≡ tagged.core.active →
-    tag_jumps image tagged rd target ≡ Traps BadJump
-own_jump image tagged rd target own = by _
-  where
-    by : (links : Bool) → (if links then carried_called image tagged (comp_of_code target) target
-        (entered_export image (comp_of_code target) target) else Traps BadJump) ≡ Traps BadJump
-    by true = own_by image tagged _ target _ own
-    by false = refl
-
 pub elsewhere : (tagged : Tagged) (rd target : ℕ) (inside : Bool) (x : OutcomeOf Tagged) → target % 4 ≡ 0 →
     inside ≡ false → jump_by core_of inside tagged rd target x ≡ x
 elsewhere tagged rd target inside x aligned out = rw (eq-eqb (target % 4) 0 aligned, out) refl

@@ -159,6 +159,3 @@ module _ (site : TagSite) (formed : IsWellFormed site.image) where
   pub own_code : (a : ℕ) → is_own_code site a ≡ true → HasBytes (first_bytes site.image) a 4 × (a + 4 < 2 ^ 32)
   own_code a is = let parts = and_parts (nat_eq (a % 4) 0) _ is in
       code_tagged site.image formed site.ranges site.comp a parts.1
-
-  pub own_data : (a size : ℕ) → are_own_data site a size ≡ true → HasBytes (first_bytes site.image) a size
-  own_data a size is = data_tagged_there site.image formed site.ranges site.comp a size is

@@ -60,13 +60,6 @@ pub record CanRunTagged (image : ImageParts) (events : ℕ) (hart : Hart) (memor
   pub sound : IsSound image hart
   pub owned : IsOwned image memory
 
--- what a machine is loaded with
-pub record LoadedParts : Type 0 where
-  pub image : ImageParts
-  pub ranges : List TagRange
-  pub inputs : List ℕ
-  pub events : ℕ
-
 -- a compartment of an image, and the ranges
 pub record TagSite : Type 0 where
   pub image : ImageParts
