@@ -2,8 +2,9 @@
 
 ghost use Rattle.sc_base.specs.Prelude.{most_image};
 ghost use Rattle.sc_top.specs.Prelude.{AccountsRunAsExec, Command, CompiledImagesAreExplained, CompiledImagesRun};
-ghost use Rattle.sc_top.specs.Prelude.{ExplainedAreTagged, IsAnswer, IsOutput, LinkedImagesAreExplained};
-ghost use Rattle.sc_top.specs.Prelude.{LinkingIsCompiling, SameAnswer, TagsRunAsExec};
+ghost use Rattle.sc_top.specs.Prelude.{ExecutionsAreApart, ExplainedAreTagged, IsAnswer, IsOutput};
+ghost use Rattle.sc_top.specs.Prelude.{LinkedImagesAreExplained, LinkingIsCompiling, SameAnswer};
+ghost use Rattle.sc_top.specs.Prelude.{SectionsAreApart, TagsRunAsExec};
 ghost use Rattle.sc_image.specs.Prelude.{IsImage};
 ghost use Rattle.std.specs.Prelude.{◌≡◌, ◌≤◌, ℕ, List, length};
 ghost use Rattle.sc_top.specs.declared.status.Status.{Status};
@@ -97,4 +98,19 @@ pub fn explained_are_tagged()
     ensures { ExplainedAreTagged }
 {
     tags_agree();
+}
+
+/// Take two texts with the same interfaces, and the same sections outside a set of compartments but for their lines.
+/// What `run` writes for both gives away of the set only its own events, its traps and the time that it takes.
+pub fn sections_are_apart()
+    ensures { SectionsAreApart }
+{
+    one_program();
+}
+
+/// So does what `exec` writes for two images that agree outside a set of compartments.
+pub fn executions_are_apart()
+    ensures { ExecutionsAreApart }
+{
+    one_image();
 }
