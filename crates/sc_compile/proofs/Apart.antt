@@ -13,17 +13,19 @@ use Rattle.sc_compile.specs.Prelude.{ImagesAreApart, SameSectionsBut, image_of}
 use Rattle.sc_compile.proofs.Parts.{entry_by_lines, entry_so, image_is, own_codes, own_entry, own_part}
 use Rattle.sc_compile.proofs.Parts.{part_by_lines, part_so}
 
+abbrev exports_of : Option CompPart → List ExportPart
+exports_of found = option_map_or (λ comp. comp.exports) found []
+
 -- the exports of a part are those of its interface, whatever its section is
 abbrev exports_by : (comp : ℕ) → Option Interface → List ExportPart
 exports_by comp found = option_map_or (λ interface. export_parts comp 0 interface.exports) found []
 
 exported_so : (interfaces : Interfaces) (comp : ℕ) (section : Option TypedSection) →
-    option_map_or (λ part. part.exports) (own_part interfaces comp section) [] ≡
-    exports_by comp (comp_at interfaces comp)
+    exports_of (own_part interfaces comp section) ≡ exports_by comp (comp_at interfaces comp)
 exported_so interfaces comp section = by (comp_at interfaces comp) where
   by : (found : Option Interface) →
-      option_map_or {A = CompPart} (λ part. part.exports) (option_map (λ interface. linked_part interfaces comp
-      interface (section_or_none section) (own_codes interfaces comp section)) found) [] ≡ exports_by comp found
+      exports_of (option_map (λ interface. linked_part interfaces comp interface (section_or_none section)
+      (own_codes interfaces comp section)) found) ≡ exports_by comp found
   by None = refl
   by (Some interface) = refl
 
@@ -44,7 +46,7 @@ module _ (set : ℕ → Bool) (program other : ProgramTree) (same : SameSections
   exports_of_built : (its : ProgramTree) (c : ℕ) →
       exported_by (built_image its) c ≡ exports_by c (comp_at its.interfaces c)
   exports_of_built its c =
-      ap (λ found. option_map_or (λ part. part.exports) found []) (part_so its c) ∙
+      ap exports_of (part_so its c) ∙
       exported_so its.interfaces c (slice_get its.sections c)
 
   built_same : SameBut set (built_image program) (built_image other)

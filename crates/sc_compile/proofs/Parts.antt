@@ -1,8 +1,8 @@
 -- Each compartment of a program's image is the part of its own section, whatever lines its parts stand on, and the run
 -- enters at the main section's own code.
-use Rattle.sc_compile.proofs.Common.{Addresses, CodeTree, ImageParts, Interfaces, List, None, Option, ProgramTree}
-use Rattle.sc_compile.proofs.Common.{Proto, Some, TacSection, TypedFunction, TypedSection, [], all_codes, ap, ap₂}
-use Rattle.sc_compile.proofs.Common.{built_image, bytes_eq, codes_at, comp_at, cond, entry_address, entry_jumps}
+use Rattle.sc_compile.proofs.Common.{Addresses, CodeTree, ImageParts, Interface, Interfaces, List, None, Option}
+use Rattle.sc_compile.proofs.Common.{ProgramTree, Proto, Some, TacSection, TypedFunction, TypedSection, [], all_codes}
+use Rattle.sc_compile.proofs.Common.{ap, ap₂, built_image, bytes_eq, codes_at, comp_at, cond, entry_address, entry_jumps}
 use Rattle.sc_compile.proofs.Common.{function_code, functions_or_none, if◌then◌else◌, length, length-map, linked_codes}
 use Rattle.sc_compile.proofs.Common.{main_name, map, nat_lt, not, option_map, part_at, place_named, pos, program_tac, refl}
 use Rattle.sc_compile.proofs.Common.{section_at, section_or_none, section_tac, slice_get, suc, sym, too_large, ℕ, ◌++◌}
