@@ -1,15 +1,15 @@
 -- Programs with the same sections outside a set have images that are the same outside the set.
-use Rattle.sc_compile.proofs.Common.{ImageParts, Interface, Interfaces, List, None, Option, ProgramTree, Some}
+use Rattle.sc_compile.proofs.Common.{Interface, Interfaces, List, None, Option, ProgramTree, Some}
 use Rattle.sc_compile.proofs.Common.{TypedSection, [], all_codes, ap, built_image, comp_at, comps_length, false, length}
 use Rattle.sc_compile.proofs.Common.{program_tac, refl, slice_get, subst, sym, ℕ, ◌∙◌, ◌≡◌}
 use Rattle.std.specs.Option.{option_map, option_map_or}
-use Rattle.std.specs.Prelude.{Bool, Ok}
+use Rattle.std.specs.Prelude.{Bool}
 use Rattle.sc_image.specs.Prelude.{SameBut}
 use Rattle.sc_image.specs.Calls.{exported_by}
 use Rattle.sc_image.specs.declared.parts.CompPart.{CompPart}
 use Rattle.sc_image.specs.declared.parts.ExportPart.{ExportPart}
 use Rattle.sc_linker.specs.Prelude.{export_parts, linked_part, section_or_none}
-use Rattle.sc_compile.specs.Prelude.{ImagesAreApart, SameSectionsBut, image_of}
+use Rattle.sc_compile.specs.Prelude.{ImagesAreApart, SameSectionsBut}
 use Rattle.sc_compile.proofs.Parts.{entry_by_lines, entry_so, image_is, own_codes, own_entry, own_part}
 use Rattle.sc_compile.proofs.Parts.{part_by_lines, part_so}
 

@@ -6,7 +6,7 @@ use Rattle.sc_compile.proofs.Common.{ap, ap₂, built_image, bytes_eq, codes_at,
 use Rattle.sc_compile.proofs.Common.{function_code, functions_or_none, if◌then◌else◌, length, length-map, linked_codes}
 use Rattle.sc_compile.proofs.Common.{main_name, map, nat_lt, not, option_map, part_at, place_named, pos, program_tac, refl}
 use Rattle.sc_compile.proofs.Common.{section_at, section_or_none, section_tac, slice_get, suc, sym, too_large, ℕ, ◌++◌}
-use Rattle.sc_compile.proofs.Common.{◌+◌, ◌-ℤ◌, ◌*◌, ◌∙◌, ◌∷◌, ◌≡◌}
+use Rattle.sc_compile.proofs.Common.{◌+◌, ◌-ℤ◌, ◌∙◌, ◌∷◌, ◌≡◌}
 use Rattle.std.specs.Prelude.{Ok}
 use Rattle.std.specs.List.{position_or_len}
 use Rattle.rv_code.specs.Prelude.{word_of}

@@ -1,9 +1,9 @@
 -- What a section is lowered to doesn't depend on where its parts stand.
 use Rattle.sc_lower.proofs.Common.{Each, Inside, Interfaces, List, None, Option, Parts, Some, TypedExpr, TypedFunction}
-use Rattle.sc_lower.proofs.Common.{TypedLocal, TypedSection, TypedSimple, TypedStmt, TypedStmtKind, TypedStmtKind-F}
+use Rattle.sc_lower.proofs.Common.{TypedLocal, TypedSimple, TypedStmt, TypedStmtKind, TypedStmtKind-F}
 use Rattle.sc_lower.proofs.Common.{TypedStruct, [], ap, body_code, both, cells_of, cycle, entry_of, expr_nodes, forms}
 use Rattle.sc_lower.proofs.Common.{in_turn, init_code, inits_code, is_some, kind_nodes, kind_step, layer_of, length}
-use Rattle.sc_lower.proofs.Common.{local_nodes, lowered_function, map, nodes, on_line, part_code, part_nodes, refl, stmt_at}
+use Rattle.sc_lower.proofs.Common.{local_nodes, lowered_function, map, nodes, part_code, part_nodes, refl, stmt_at}
 use Rattle.sc_lower.proofs.Common.{stmt_induction, suc, sym, test, total, variables, ℕ, ◌++◌, ◌+◌, ◌∙◌, ◌∷◌, ◌≡◌}
 use Rattle.sc_lower.specs.Prelude.{CodeHasNoLines}
 use Rattle.std.proofs.Common.{ap₂}
@@ -12,8 +12,7 @@ use Rattle.sc_core.proofs.Induction.{everywhere}
 use Rattle.sc_core.specs.declared.stmt.TypedStmt.{TypedStmt-F, fold-TypedStmt}
 use Rattle.sc_core.specs.declared.stmt.TypedStmtKind.{fold-TypedStmtKind, map-TypedStmtKind, roll-TypedStmtKind}
 use Rattle.sc_core.specs.declared.stmt.TypedStmtKind.TheOpen as layer
-use Rattle.sc_core_laws.specs.Lines.{function_lined, layer_lined, local_lined, section_lined, simple_lined, stmt_lined}
-use Rattle.sc_tac.specs.declared.function.TacFnTree.{TacFnTree}
+use Rattle.sc_core_laws.specs.Lines.{function_lined, layer_lined, local_lined, simple_lined, stmt_lined}
 
 module _ (line_of : ℕ → ℕ) where
   -- STATEMENTS
