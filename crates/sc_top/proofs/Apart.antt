@@ -1,13 +1,15 @@
 -- What `run` and `exec` write for texts and images that are the same outside a set of compartments: the runs are apart.
 use Rattle.sc_top.proofs.Common.{Accepts, Bool, BytesNameOneImage, Exec, HasImage, ImageParts, Interfaces, IsExecuted}
 use Rattle.sc_top.proofs.Common.{IsImage, IsTextOutput, IsWellFormed, List, ProgramTree, Run, RunOptions, ap}
-use Rattle.sc_top.proofs.Common.{image_interfaces, machine_text, map, refl, subst, sym, word_of, ℕ, ◌∙◌, ◌≡◌}
+use Rattle.sc_top.proofs.Common.{image_interfaces, machine_text, map, option_map, refl, subst, sym, word_of, ℕ, ◌∙◌, ◌≡◌}
 use Rattle.sc_image.proofs.ApartLaws.{only_set_delays, same_agree, stops_apart, traces_apart}
 use Rattle.sc_image.proofs.ApartRuns.{runs_apart}
 use Rattle.sc_image.specs.Prelude.{AgreeBut, SameBut}
 use Rattle.sc_compile.proofs.Apart.{images_are_apart}
+use Rattle.sc_compile.specs.Prelude.{lineless}
+use Rattle.sc_types_section_laws.specs.Sections.{SectionsAreTypedAlone}
 use Rattle.sc_top.specs.Apart.{AskAlike, ExecutedApart, ExecutionsAreApart, FitBut, ReportApart, RunApart}
-use Rattle.sc_top.specs.Apart.{SectionsAreApart}
+use Rattle.sc_top.specs.Apart.{SameTextsFit, SectionsAreApart}
 use Rattle.sc_top.proofs.Known.{inputs_are_words}
 
 module _ (set : ℕ → Bool) (options : RunOptions) (one other : ImageParts) (formed : IsWellFormed one)
@@ -80,3 +82,16 @@ module _ (names_one : BytesNameOneImage) where
     its_written = executed_so its_options its_bytes its other its_run;
     apart = run_apart set options one.image other.image one.well_formed other.well_formed agree its_options alike;
   }
+
+pub same_texts_fit : SectionsAreTypedAlone → SameTextsFit
+same_texts_fit alone set text other same = record {
+  program = same.source.program;
+  its_program = same.its_source.program;
+  accepted = subst (λ bytes. Accepts bytes same.source.program) same.whole same.parts.accepted;
+  its_accepted = subst (λ bytes. Accepts bytes same.its_source.program) same.its_whole same.its_parts.accepted;
+  same = record {
+    interfaces = same.interfaces;
+    sections = λ comp out. ap (option_map lineless) (alone same.source same.its_source comp same.parts same.its_parts
+        same.interfaces (same.sections comp out));
+  };
+}

@@ -1,6 +1,6 @@
 -- What `run` and `exec` give away of a set of compartments: laws of two reports.
-use Rattle.sc_top.specs.Common.{Accepts, Interfaces, IsImage, ProgramTree, image_interfaces, image_of, machine}
-use Rattle.sc_top.specs.Common.{MachineRun}
+use Rattle.sc_top.specs.Common.{Accepts, IsImage, IsSource, MachineRun, ProgramTree, SourceParts, image_interfaces}
+use Rattle.sc_top.specs.Common.{image_of, machine}
 use Rattle.sc_word.specs.Prelude.{word_of}
 use Rattle.sc_image.specs.Prelude.{AgreeBut, AgreeUpTo, AreApart, HaveParted, HaveStopped}
 use Rattle.sc_image.specs.Apart.{OnlySetTakesMore}
@@ -9,7 +9,7 @@ use Rattle.sc_image.specs.declared.parts.ImageParts.{ImageParts}
 use Rattle.sc_compile.specs.Prelude.{SameSectionsBut}
 use Rattle.sc_top_words.specs.declared.command.Command.TheVariants.{Exec, Run}
 use Rattle.sc_top_words.specs.declared.command.RunOptions.{RunOptions}
-use Rattle.std.specs.Prelude.{◌≡◌, ◌≢◌, ◌⊎◌, ℕ, Bool, List, map, Ok}
+use Rattle.std.specs.Prelude.{◌≡◌, ◌≢◌, ◌⊎◌, ℕ, Bool, false, List, map, slice_get, Ok}
 use Rattle.sc_top.specs.Output.{IsOutput, machine_run, machine_text}
 
 -- A set of compartments is a test of their numbers.
@@ -22,6 +22,21 @@ pub record FitBut (set : ℕ → Bool) (text other : List ℕ) : Type 0 where
   pub accepted : Accepts text program
   pub its_accepted : Accepts other its_program
   pub same : SameSectionsBut set program its_program
+
+-- Two accepted texts with the same interfaces, and the same sections outside a set byte for byte.
+pub record SameTextsBut (set : ℕ → Bool) (text other : List ℕ) : Type 0 where
+  pub source : SourceParts
+  pub its_source : SourceParts
+  pub parts : IsSource source
+  pub its_parts : IsSource its_source
+  pub whole : source.bytes ≡ text
+  pub its_whole : its_source.bytes ≡ other
+  pub interfaces : source.program.interfaces ≡ its_source.program.interfaces
+  pub sections : (comp : ℕ) → set comp ≡ false → slice_get source.sections comp ≡ slice_get its_source.sections comp
+
+-- Such texts have the same sections outside the set.
+abbrev pub SameTextsFit : Type 0
+SameTextsFit = (set : ℕ → Bool) (text other : List ℕ) → SameTextsBut set text other → FitBut set text other
 
 -- options with the same inputs and the same limit of events
 pub record AskAlike (options its_options : RunOptions) : Type 0 where
