@@ -16,17 +16,14 @@ use Rattle.sc_core_laws.specs.Lines.{function_lined, layer_lined, local_lined, s
 
 module _ (line_of : ℕ → ℕ) where
   -- STATEMENTS
-  abbrev kind_lined : TypedStmtKind-F TypedStmtKind TypedStmt → TypedStmtKind
-  kind_lined k = roll-TypedStmtKind (layer_lined line_of k)
-
-  abbrev moved : TypedStmt-F TypedStmtKind TypedStmt → TypedStmt
-  moved s = record { line = line_of s.line; kind = s.kind }
+  abbrev at_other_line : TypedStmt-F TypedStmtKind TypedStmt → TypedStmt
+  at_other_line s = record { line = line_of s.line; kind = s.kind }
 
   -- a layer whose statements stand on other lines
   abbrev inner_lined : TypedStmtKind-F TypedStmtKind TypedStmt → TypedStmtKind-F TypedStmtKind TypedStmt
   inner_lined k =
-      layer_lined line_of (map-TypedStmtKind _ _ _ _ (fold-TypedStmtKind TypedStmtKind TypedStmt kind_lined moved)
-      (fold-TypedStmt TypedStmtKind TypedStmt kind_lined moved) k)
+      layer_lined line_of (map-TypedStmtKind _ _ _ _ (fold-TypedStmtKind TypedStmtKind TypedStmt
+      (λ inside. roll-TypedStmtKind (layer_lined line_of inside)) at_other_line) (stmt_lined line_of) k)
 
   abbrev part_lined : Option TypedSimple → Option TypedSimple
   part_lined part = option_map (simple_lined line_of) part
@@ -59,7 +56,7 @@ module _ (line_of : ℕ → ℕ) where
 
     same_made : (stmt : TypedStmt) → Same stmt
     same_made = stmt_induction Same (λ line k h.
-        ap made (stmt_at TypedStmtKind TypedStmt kind_lined moved line k)
+        ap made (stmt_at TypedStmtKind TypedStmt _ at_other_line line k)
         ∙ stmt_at A A step (λ s. s.kind) (line_of line) (inner_lined k) ∙ same_layer k h
         ∙ sym (stmt_at A A step (λ s. s.kind) line k))
 
