@@ -1,11 +1,11 @@
 -- The images of programs: where exports enter, and what of them an object of one section has.
 use Rattle.sc_object.proofs.Common.{ExportPart, is_some, ◌*◌, flat_map, import_part, imports, is_input, is_output}
 use Rattle.sc_object.proofs.Common.{length, Bool, CompPart, Face, HasEntries, ImageParts, Interface, Interfaces, List}
-use Rattle.sc_object.proofs.Common.{ObjectsAreSeparate, Ok, Option, ProgramTree, Proto, Some, TypedSection, [], ap, ap₂}
-use Rattle.sc_object.proofs.Common.{arith, built_image, code_start, comp_at, comp_part, comp_parts, eqb-true}
-use Rattle.sc_object.proofs.Common.{export_parts, exports_in, face_export, face_of, false, function_address}
-use Rattle.sc_object.proofs.Common.{if◌then◌else◌, image_of, main_name, map, object_of, option_map_or, place_named}
-use Rattle.sc_object.proofs.Common.{refl, section_addresses, section_or_none, slice_get, subst, suc, sym, true}
+use Rattle.sc_object.proofs.Common.{ObjectsAreSeparate, Ok, Option, ProgramTree, Proto, Some, TypedSection, [], ap}
+use Rattle.sc_object.proofs.Common.{arith, built_image, code_start, comp_part, comp_parts, eqb-true}
+use Rattle.sc_object.proofs.Common.{export_parts, face_export, face_of, false}
+use Rattle.sc_object.proofs.Common.{if◌then◌else◌, image_of, map, object_of, option_map_or}
+use Rattle.sc_object.proofs.Common.{refl, slice_get, subst, suc, sym, true}
 use Rattle.sc_object.proofs.Common.{with_entries, zero, ℕ, ◌+◌, ◌-◌, ◌<◌, ◌==◌, ◌∙◌, ◌∷◌, ◌≡◌}
 use Rattle.sc_compile.proofs.Parts.{entry_by_lines, entry_so, image_is, own_entry, parts_are_separate}
 use Rattle.sc_compile.specs.Prelude.{SameButForLines, all_codes, program_tac}

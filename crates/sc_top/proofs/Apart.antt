@@ -1,5 +1,5 @@
 -- What `run` and `exec` write for texts and images that are the same outside a set of compartments: the runs are apart.
-use Rattle.sc_top.proofs.Common.{Accepts, Bool, BytesNameOneImage, Exec, HasImage, ImageParts, Interfaces, IsExecuted}
+use Rattle.sc_top.proofs.Common.{Accepts, Bool, BytesNameOneImage, HasImage, ImageParts, IsExecuted}
 use Rattle.sc_top.proofs.Common.{IsImage, IsTextOutput, IsWellFormed, List, ProgramTree, Run, RunOptions, ap}
 use Rattle.sc_top.proofs.Common.{image_interfaces, machine_text, map, option_map, refl, subst, sym, word_of, ℕ, ◌∙◌, ◌≡◌}
 use Rattle.sc_image.proofs.ApartLaws.{only_set_delays, same_agree, stops_apart, traces_apart}
@@ -8,7 +8,7 @@ use Rattle.sc_image.specs.Prelude.{AgreeBut, SameBut}
 use Rattle.sc_compile.proofs.Apart.{images_are_apart}
 use Rattle.sc_compile.specs.Prelude.{lineless}
 use Rattle.sc_types_section_laws.specs.Sections.{SectionsAreTypedAlone}
-use Rattle.sc_top.specs.Apart.{AskAlike, ExecutedApart, ExecutionsAreApart, FitBut, ReportApart, RunApart}
+use Rattle.sc_top.specs.Apart.{AskAlike, ExecutionsAreApart, RunApart}
 use Rattle.sc_top.specs.Apart.{SameTextsFit, SectionsAreApart}
 use Rattle.sc_top.proofs.Known.{inputs_are_words}
 
