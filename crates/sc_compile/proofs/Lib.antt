@@ -1,5 +1,6 @@
 pub mod Common
 pub mod Allowed
+pub mod Apart
 pub mod Building
 pub mod Codes
 pub mod Counted

@@ -62,14 +62,6 @@ unless_large (Some fault) image = Err fault
 abbrev pub image_of : ProgramTree → Result ImageParts CompileFault
 image_of program = unless_large (too_large program) (built_image program)
 
--- Compilation is separate: where two programs have the same interfaces and the same section of a number, their images
--- have the same compartment of that number.
-abbrev pub PartsAreSeparate : Type 0
-PartsAreSeparate = (program other : ProgramTree) (image its : ImageParts) (comp : ℕ) →
-    image_of program ≡ Ok image → image_of other ≡ Ok its → program.interfaces ≡ other.interfaces →
-    slice_get program.sections comp ≡ slice_get other.sections comp →
-    slice_get image.comps comp ≡ slice_get its.comps comp
-
 -- why a program has no image: what of it is too large, or that memory ran out
 abbrev pub IsFault : ProgramTree → CompileFault → Type 0
 IsFault program OutOfMemory = Unit {0}

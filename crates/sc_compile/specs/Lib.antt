@@ -1,5 +1,6 @@
 pub mod Common
 pub mod Prelude
+pub mod Apart
 pub mod Compiled
 pub mod Counting
 pub mod Globals

@@ -5,7 +5,9 @@ pub use Rattle.sc_compile.specs.Compiled.{EmitsOrIsBlamed, ForwardSimulation, Ha
 pub use Rattle.sc_compile.specs.Compiled.{IsRobust, program_nodes, test_word}
 pub use Rattle.sc_compile.specs.Counting.{IsCounted, IsCountedFunction, cells_in}
 pub use Rattle.sc_compile.specs.Globals.{BeginAsWords, BeginsAsWords}
-pub use Rattle.sc_compile.specs.Image.{HasParts, IsFault, PartsAreSeparate, all_codes, built_image, function_code}
+pub use Rattle.sc_lower.specs.Prelude.{SameButForLines, lineless}
+pub use Rattle.sc_compile.specs.Apart.{HaveSameSection, ImagesAreApart, PartsAreSeparate, SameSectionsBut}
+pub use Rattle.sc_compile.specs.Image.{HasParts, IsFault, all_codes, built_image, function_code}
 pub use Rattle.sc_compile.specs.Image.{function_tac, image_of, program_tac, section_codes, section_part, section_tac}
 pub use Rattle.sc_compile.specs.Image.{unless_large}
 pub use Rattle.sc_compile.specs.Passes.{AreEmitted, CanBeCompiled, EachEmits, EmitsAll, EmitsFrom, EmitsSo, Fits}

@@ -8,5 +8,5 @@ mod passes;
 mod sizes;
 
 pub use fault::CompileFault;
-pub use laws::{finds_origin, parts_are_separate};
+pub use laws::{finds_origin, images_are_apart, parts_are_separate};
 pub use passes::compile;

@@ -11,6 +11,7 @@ pub mod Gives
 pub mod HeadRows
 pub mod HeapRows
 pub mod Hollow
+pub mod Lines
 pub mod Lowered
 pub mod Lowering
 pub mod Matching

@@ -3,6 +3,7 @@ pub mod Prelude
 pub mod Beyond
 pub mod Branches
 pub mod Expressions
+pub mod Lines
 pub mod Lowering
 pub mod Programs
 pub mod Results

@@ -15,6 +15,7 @@ pub use Rattle.sc_lower.specs.Expressions.{is_sub, logical_code}
 pub use Rattle.sc_lower.specs.Expressions.{loaded, lone, lowered, lowered_step, member, move_op, not_op, or_code}
 pub use Rattle.sc_lower.specs.Expressions.{place_code, replaced, scalar_in, scalar_of, size_of, term_step, truth_code}
 pub use Rattle.sc_lower.specs.Expressions.{unary_op}
+pub use Rattle.sc_lower.specs.Lines.{CodeHasNoLines, SameButForLines, lineless}
 pub use Rattle.sc_lower.specs.Lowering.{KeepsCodeRules, KeepsMeaning, KeepsRules, MeansTheSame}
 pub use Rattle.sc_lower.specs.Programs.{body_code, entry_of, export_called, exports_of, init_code, inits_code}
 pub use Rattle.sc_lower.specs.Programs.{lowered_function, lowered_program, lowered_section, lowered_sections}

@@ -12,6 +12,6 @@ mod program;
 mod selection;
 mod stmt;
 
-pub use laws::{keeps_branches, keeps_meaning, keeps_rules};
+pub use laws::{code_has_no_lines, keeps_branches, keeps_meaning, keeps_rules};
 pub use nodes::function_nodes;
 pub use program::{lower, lower_function};

@@ -1,14 +1,14 @@
 -- The images of programs: where exports enter, and what of them an object of one section has.
 use Rattle.sc_object.proofs.Common.{ExportPart, is_some, ◌*◌, flat_map, import_part, imports, is_input, is_output}
 use Rattle.sc_object.proofs.Common.{length, Bool, CompPart, Face, HasEntries, ImageParts, Interface, Interfaces, List}
-use Rattle.sc_object.proofs.Common.{ObjectsAreSeparate, Ok, Option, ProgramTree, Proto, Some, TypedSection, [], ap, ap₂}
-use Rattle.sc_object.proofs.Common.{arith, built_image, code_start, comp_at, comp_part, comp_parts, eqb-true}
-use Rattle.sc_object.proofs.Common.{export_parts, exports_in, face_export, face_of, false, function_address}
-use Rattle.sc_object.proofs.Common.{if◌then◌else◌, image_of, main_name, map, object_of, option_map_or, place_named}
-use Rattle.sc_object.proofs.Common.{refl, section_addresses, section_or_none, slice_get, subst, suc, sym, true}
+use Rattle.sc_object.proofs.Common.{ObjectsAreSeparate, Ok, Option, ProgramTree, Proto, Some, TypedSection, [], ap}
+use Rattle.sc_object.proofs.Common.{arith, built_image, code_start, comp_part, comp_parts, eqb-true}
+use Rattle.sc_object.proofs.Common.{export_parts, face_export, face_of, false}
+use Rattle.sc_object.proofs.Common.{if◌then◌else◌, image_of, map, object_of, option_map_or}
+use Rattle.sc_object.proofs.Common.{refl, slice_get, subst, suc, sym, true}
 use Rattle.sc_object.proofs.Common.{with_entries, zero, ℕ, ◌+◌, ◌-◌, ◌<◌, ◌==◌, ◌∙◌, ◌∷◌, ◌≡◌}
-use Rattle.sc_compile.proofs.Parts.{codes_so, image_is, own_codes, parts_are_separate}
-use Rattle.sc_compile.specs.Prelude.{all_codes, program_tac}
+use Rattle.sc_compile.proofs.Parts.{entry_by_lines, entry_so, image_is, own_entry, parts_are_separate}
+use Rattle.sc_compile.specs.Prelude.{SameButForLines, all_codes, program_tac}
 use Rattle.sc_tac.specs.declared.machine_code.CodeTree.{CodeTree}
 
 -- Entries.
@@ -88,37 +88,30 @@ faces_are program codes c (interface ∷ list) =
 
 -- The entry is told by the interfaces and the main compartment's own section.
 
-abbrev entry_by : Interfaces → ℕ → Option TypedSection → ℕ
-entry_by interfaces c section =
-    function_address (section_addresses c (length (exports_in (comp_at interfaces c))) (section_or_none section)
-    (own_codes interfaces c section)) (place_named main_name section)
-
 abbrev main_at_by : Interfaces → ℕ → Option TypedSection → ℕ
-main_at_by interfaces c section = if interfaces.main == c then entry_by interfaces c section - code_start c else 0
+main_at_by interfaces c section = if interfaces.main == c then own_entry interfaces c section - code_start c else 0
 
 module _ (program : ProgramTree) (c : ℕ) where
   abbrev interfaces : Interfaces
   interfaces = program.interfaces
-
-  entry_so : (built_image program).entry ≡
-      entry_by interfaces interfaces.main (slice_get program.sections interfaces.main)
-  entry_so =
-      let main = interfaces.main in
-      let section = slice_get program.sections main in
-      ap (λ codes. function_address (section_addresses main (length (exports_in (comp_at interfaces main)))
-      (section_or_none section) codes) (place_named main_name section)) (codes_so program main)
 
   main_at_so : (object_of (built_image program) c).main_at ≡ main_at_by interfaces c (slice_get program.sections c)
   main_at_so = by (interfaces.main == c) refl
     where
       by : (is_main : Bool) → (interfaces.main == c) ≡ is_main →
           (if is_main then (built_image program).entry - code_start c else 0) ≡
-          (if is_main then entry_by interfaces c (slice_get program.sections c) - code_start c else 0)
+          (if is_main then own_entry interfaces c (slice_get program.sections c) - code_start c else 0)
       by true same =
           let at : interfaces.main ≡ c = eqb-true interfaces.main c same in
-          ap (λ entry. entry - code_start c) (entry_so ∙
-          ap (λ n. entry_by interfaces n (slice_get program.sections n)) at)
+          ap (λ entry. entry - code_start c) (entry_so program ∙
+          ap (λ n. own_entry interfaces n (slice_get program.sections n)) at)
       by false same = refl
+
+main_at_by_lines : (interfaces : Interfaces) (c : ℕ) (section other : Option TypedSection) →
+    SameButForLines section other → main_at_by interfaces c section ≡ main_at_by interfaces c other
+main_at_by_lines interfaces c section other but =
+    ap (λ entry. if interfaces.main == c then entry - code_start c else 0)
+    (entry_by_lines interfaces c section other but)
 
 pub separate : ObjectsAreSeparate
 separate program other image its c is other_is same_interfaces same_section =
@@ -139,8 +132,9 @@ separate program other image its c is other_is same_interfaces same_section =
     let globals = ap (λ found. option_map_or (λ (comp : CompPart). comp.globals) found []) part in
     let main_at : (object_of image c).main_at ≡ (object_of its c).main_at =
     ap (λ (i : ImageParts). (object_of i c).main_at) (sym image_so) ∙
-    (main_at_so program c ∙ (ap₂ (λ i section. main_at_by i c section) same_interfaces same_section ∙
-    (sym (main_at_so other c) ∙ ap (λ (i : ImageParts). (object_of i c).main_at) its_so))) in
+    (main_at_so program c ∙ (ap (λ i. main_at_by i c (slice_get program.sections c)) same_interfaces ∙
+    (main_at_by_lines other.interfaces c _ _ same_section ∙
+    (sym (main_at_so other c) ∙ ap (λ (i : ImageParts). (object_of i c).main_at) its_so)))) in
     λ i. record {
       main = main i;
       own = c;

@@ -1,5 +1,5 @@
 -- The laws of objects and linking.
-use Rattle.sc_compile.specs.Prelude.{image_of}
+use Rattle.sc_compile.specs.Prelude.{HaveSameSection, image_of}
 use Rattle.sc_image.specs.Prelude.{IsWellFormed}
 use Rattle.std.specs.Prelude.{◌≡◌, ℕ, ◌<◌, List, length, None, Ok, Some, slice_get}
 use Rattle.sc_core.specs.declared.program.ProgramTree.{ProgramTree}
@@ -32,9 +32,9 @@ pub record LinkIsCompile : Type 0 where
       image_of program ≡ Ok image → IsWellFormed image → AreObjectsOf image objects → IsJoined objects joined →
       joined ≡ image
 
--- Objects are separate: where two programs have the same interfaces and the same section of a number, they have the
--- same object of it.
+-- Objects are separate: where two programs have the same interfaces and the same section of a number, but for the lines
+-- of its parts, they have the same object of it.
 abbrev pub ObjectsAreSeparate : Type 0
 ObjectsAreSeparate = (program other : ProgramTree) (image its : ImageParts) (c : ℕ) →
     image_of program ≡ Ok image → image_of other ≡ Ok its → program.interfaces ≡ other.interfaces →
-    slice_get program.sections c ≡ slice_get other.sections c → object_of image c ≡ object_of its c
+    HaveSameSection program other c → object_of image c ≡ object_of its c

@@ -29,7 +29,7 @@ pub fn link_is_compile()
     ensures { LinkIsCompile }
 {}
 
-/// Two programs with the same interfaces and the same section of a number have the same object of it.
+/// Two programs with the same interfaces and the same section of a number, but for its lines, have the same object of it.
 pub fn objects_are_separate()
     ensures { ObjectsAreSeparate }
 {}

@@ -1,6 +1,7 @@
 pub mod Common
 pub mod Accounts
 pub mod Answers
+pub mod Apart
 pub mod Asked
 pub mod Causes
 pub mod ChainTexts

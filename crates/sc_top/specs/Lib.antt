@@ -2,6 +2,7 @@ pub mod Common
 pub mod Prelude
 pub mod Accounts
 pub mod Answer
+pub mod Apart
 pub mod Command
 pub mod Committed
 pub mod Failure

@@ -14,6 +14,8 @@ pub use Rattle.sc_top.specs.Answer.{FindsLongText, FindsNoSection, IsOfAnother, 
 pub use Rattle.sc_top.specs.Answer.{FindsUnfit, IsAnswer, IsGood, IsInput, IsSilent, IsUndisturbed, LacksSection}
 pub use Rattle.sc_top.specs.Answer.{IsUnfit, IsWhole, IsWithin, IsWithinLimit, Prints, Refuses, SameAnswer, Says}
 pub use Rattle.sc_top.specs.Answer.{Traffic, cause_in}
+pub use Rattle.sc_top.specs.Apart.{AskAlike, ExecutedApart, ExecutionsAreApart, FitBut, ReportApart, RunApart}
+pub use Rattle.sc_top.specs.Apart.{SameTextsBut, SameTextsFit, SectionsAreApart, runs_of}
 pub use Rattle.sc_top.specs.Command.{HoldsAfterImage, HoldsAfterPolicy, HoldsOfBoth, HoldsOfText}
 pub use Rattle.sc_top.specs.Command.{accounted_intake, intake, limit_in, limit_of}
 pub use Rattle.sc_top.specs.Committed.{IsCommitted, comp_of, links_until, performers, section_after, text_after}

@@ -2,8 +2,9 @@
 
 ghost use Rattle.sc_base.specs.Prelude.{most_image};
 ghost use Rattle.sc_top.specs.Prelude.{AccountsRunAsExec, Command, CompiledImagesAreExplained, CompiledImagesRun};
-ghost use Rattle.sc_top.specs.Prelude.{ExplainedAreTagged, IsAnswer, IsOutput, LinkedImagesAreExplained};
-ghost use Rattle.sc_top.specs.Prelude.{LinkingIsCompiling, SameAnswer, TagsRunAsExec};
+ghost use Rattle.sc_top.specs.Prelude.{ExecutionsAreApart, ExplainedAreTagged, IsAnswer, IsOutput};
+ghost use Rattle.sc_top.specs.Prelude.{LinkedImagesAreExplained, LinkingIsCompiling, SameAnswer};
+ghost use Rattle.sc_top.specs.Prelude.{SameTextsFit, SectionsAreApart, TagsRunAsExec};
 ghost use Rattle.sc_image.specs.Prelude.{IsImage};
 ghost use Rattle.std.specs.Prelude.{◌≡◌, ◌≤◌, ℕ, List, length};
 ghost use Rattle.sc_top.specs.declared.status.Status.{Status};
@@ -14,6 +15,7 @@ use sc_object::{bytes_name_one_list, joins_but_for, link_is_compile, one_first_b
 use sc_policy::{one_policy, policy_or_bad};
 use sc_tags::tags_agree;
 use sc_types::{accepted_or_refused, one_phase, one_program};
+use sc_types_section_laws::sections_are_typed_alone;
 
 /// An image is never longer than the command takes that reads it.
 pub fn images_are_within()
@@ -97,4 +99,27 @@ pub fn explained_are_tagged()
     ensures { ExplainedAreTagged }
 {
     tags_agree();
+}
+
+/// Two accepted texts with the same interfaces, whose sections outside a set of compartments are the same byte for byte,
+/// are such texts as `sections_are_apart` takes.
+pub fn same_texts_fit()
+    ensures { SameTextsFit }
+{
+    sections_are_typed_alone();
+}
+
+/// Take two texts with the same interfaces, and the same sections outside a set of compartments but for their lines.
+/// What `run` writes for both gives away of the set only its own events, its traps and the time that it takes.
+pub fn sections_are_apart()
+    ensures { SectionsAreApart }
+{
+    one_program();
+}
+
+/// So does what `exec` writes for two images that agree outside a set of compartments.
+pub fn executions_are_apart()
+    ensures { ExecutionsAreApart }
+{
+    one_image();
 }
