@@ -9,3 +9,5 @@ mod given;
 mod meant;
 #[cfg(test)]
 mod sets;
+#[cfg(test)]
+mod trapped;

@@ -1,7 +1,7 @@
 -- A text in which compartments perform their parts of a trace is accepted, and means what their scripts say.
 use Rattle.sc_chain.proofs.Common.{Accepts, All, All-from_recursion, AllByRecursion, Blamed, Bool, Cause, Event}
 use Rattle.sc_chain.proofs.Common.{HasWords, Interfaces, IsRecomposed, IsReplay, IsSource, IsSplitInto, IsTyped}
-use Rattle.sc_chain.proofs.Common.{IsWellTyped, List, ProgramTree, Reads, Row, SourceParts, [], ap, arith, concat}
+use Rattle.sc_chain.proofs.Common.{IsWellTyped, List, ProgramTree, Reads, Row, SourceParts, [], ap, concat}
 use Rattle.sc_chain.proofs.Common.{false, legal, length, meaning, new_texts, part, performing, recomposed}
 use Rattle.sc_chain.proofs.Common.{recursion_from_All, refl, scripted_meaning, subst, sym, true, ℕ, ◌++◌, ◌<◌, ◌∙◌, ◌∷◌}
 use Rattle.sc_chain.proofs.Common.{◌≡◌, ◌≤◌}

@@ -2,9 +2,9 @@
 use Rattle.sc_chain.proofs.Common.{All, All-push, Blamed, Bool, Cause, Event, IsBlamedOutside, IsLink, IsNextLink}
 use Rattle.sc_chain.proofs.Common.{IsRising, Link, List, CompSet, SourceParts, SourceRun, [], is_listed, ap, append-nil}
 use Rattle.sc_chain.proofs.Common.{append_assoc, arith, blamed_are_there, c_arith, cases_eq, chain_exists, chains_rise}
-use Rattle.sc_chain.proofs.Common.{empty_set, eq-eqb, false, length, length-append, length-map, map, map-append}
-use Rattle.sc_chain.proofs.Common.{meaning, ne_eqb, nobody, performed, performing_text, subst, suc, sym, true, with, ℕ}
-use Rattle.sc_chain.proofs.Common.{⊎_elim, ◌++◌, ◌+◌, ◌-◌, ◌<◌, ◌==◌, ◌||◌, ◌∙◌, ◌∷◌, ◌≡◌, ◌≤◌, ◌⊎◌}
+use Rattle.sc_chain.proofs.Common.{eq-eqb, false, length, length-append, length-map, map, map-append}
+use Rattle.sc_chain.proofs.Common.{ne_eqb, performed, performing_text, subst, suc, sym, true, with, ℕ}
+use Rattle.sc_chain.proofs.Common.{⊎_elim, ◌++◌, ◌-◌, ◌<◌, ◌==◌, ◌||◌, ◌∙◌, ◌∷◌, ◌≡◌, ◌≤◌, ◌⊎◌}
 use Rattle.sc_core_laws.specs.Prelude.{BlameLink as Blame, IsBlameChain, IsSubset, count_outside}
 use Rattle.sc_core_laws.proofs.Blames.{outside_few}
 use Rattle.std.proofs.lemmas.List.Folds.{list_any-append}

@@ -1,11 +1,10 @@
 -- The loop that follows the chain of a trace: how it begins, goes on and ends.
 use Rattle.sc_chain.proofs.Common.{Accepts, All, EmitsOrIsBlamed, Event, HasWords, Interfaces, IsChainWith, IsNextOf}
-use Rattle.sc_chain.proofs.Common.{IsReplaced, IsSource, IsWellTyped, Link, List, None, Option, ProgramTree, CompSet}
+use Rattle.sc_chain.proofs.Common.{IsSource, IsWellTyped, Link, List, None, Option, ProgramTree, CompSet}
 use Rattle.sc_chain.proofs.Common.{Some}
 use Rattle.sc_chain.proofs.Common.{SourceParts, SourceRun, [], is_listed, ap, arith, empty_set, inl, inr, legal}
 use Rattle.sc_chain.proofs.Common.{length, meaning, refl}
 use Rattle.sc_chain.proofs.Common.{scripted_meaning, subst, sym, true, ℕ, ⊎_elim, ◌++◌, ◌-◌, ◌<◌, ◌∙◌, ◌∷◌, ◌≡◌, ◌≤◌}
-use Rattle.sc_chain.proofs.Common.{◌⊎◌}
 use Rattle.sc_linker.proofs.Comps.{same_count}
 use Rattle.sc_chain.proofs.Accepted.{recomposed_means}
 use Rattle.sc_chain.proofs.ChainFollowing.{IsAt, begins, ends, few_links, fewer_left, goes_on, runs}
@@ -16,15 +15,15 @@ pub sections_are : (source : SourceParts) (program : ProgramTree) → program �
     length source.program.interfaces.comps ≡ length source.program.sections
 sections_are source program same typed = same_count source.program (subst IsWellTyped same typed)
 
--- the run of the first text, where nobody is given
-pub own_run : (source : SourceParts) (given : List ℕ) (inputs : List ℕ) (steps : ℕ) (trace : List Event) →
-    length given ≡ 0 → (program : ProgramTree) → program ≡ source.program → (run : SourceRun) →
-    run ≡ meaning program inputs steps (length trace) →
-    run ≡ scripted_meaning source.program (is_listed given) trace inputs steps (length trace)
-own_run source [] inputs steps trace none program same run is =
-    is ∙ (ap (λ p. meaning p inputs steps (length trace)) same ∙
-    sym (empty_set.meaning source.program trace inputs steps (length trace)))
-own_run source (comp ∷ given) inputs steps trace none program same run is = absurd (omega (arith, none))
+-- the run of the source's own text, where nobody performs
+pub own_run : (source : SourceParts) (comps : List ℕ) (inputs : List ℕ) (turns events : ℕ) (trace : List Event) →
+    length comps ≡ 0 → (program : ProgramTree) → program ≡ source.program → (run : SourceRun) →
+    run ≡ meaning program inputs turns events →
+    run ≡ scripted_meaning source.program (is_listed comps) trace inputs turns events
+own_run source [] inputs turns events trace none program same run is =
+    is ∙ (ap (λ p. meaning p inputs turns events) same ∙
+    sym (empty_set.meaning source.program trace inputs turns events))
+own_run source (comp ∷ comps) inputs turns events trace none program same run is = absurd (omega (arith, none))
 
 module _ (source : SourceParts) (given : List ℕ) (inputs : List ℕ) (steps : ℕ) (trace : List Event)
     (as_many : length source.program.interfaces.comps ≡ length source.program.sections) where
@@ -82,13 +81,3 @@ module _ (source : SourceParts) (given : List ℕ) (inputs : List ℕ) (steps : 
         is_chain source inputs steps trace as_many one_program
         (recomposed_means source trace is_source allowed few words) given known links
         (ends source given inputs steps trace run links comps at (subst (IsNextOf interfaces trace run) none next))
-
--- the run of the text in which a set performs
-pub run_of_text : (source : SourceParts) (inputs : List ℕ) (steps : ℕ) (trace : List Event) (comps comps' : List ℕ)
-    (text : SourceParts) → IsReplaced source trace (is_listed comps) text → comps ≡ comps' → (program : ProgramTree) →
-    program ≡ text.program → (run : SourceRun) → run ≡ meaning program inputs steps (length trace) →
-    run ≡ runs source inputs steps trace (is_listed comps')
-run_of_text source inputs steps trace comps comps' text replaced same program program_is run is =
-    is ∙ (ap (λ p. meaning p inputs steps (length trace)) program_is ∙ (replaced.scripted.means inputs steps (length
-    trace) ∙
-    ap (λ cs. runs source inputs steps trace (is_listed cs)) same))

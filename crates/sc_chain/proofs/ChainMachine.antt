@@ -2,7 +2,7 @@
 use Rattle.sc_chain.proofs.Common.{Goes, ImageParts, IsWellFormed, List, None, Option, Outcome, MachineRun, Some}
 use Rattle.sc_chain.proofs.Common.{MachineState, Stop}
 use Rattle.sc_chain.proofs.Common.{Traps, arith, length, machine, refl, run, start, step, stopped, subst, suc, sym}
-use Rattle.sc_chain.proofs.Common.{zero, ℕ, ◌+◌, ◌≡◌, ◌≤◌}
+use Rattle.sc_chain.proofs.Common.{zero, ℕ, ◌≡◌, ◌≤◌}
 use Rattle.sc_image.proofs.Running.{run_goes, run_out, run_stopped, run_traps}
 use Rattle.sc_image.proofs.Stretches.{goes_one}
 use Rattle.sc_machine.proofs.Runs.{room_left}

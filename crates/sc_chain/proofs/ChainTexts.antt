@@ -3,7 +3,7 @@ use Rattle.sc_chain.proofs.Common.{Accepts, All, All-append, All-push, AreFresh,
 use Rattle.sc_chain.proofs.Common.{IsChain, IsChainFrom, IsChainWith, IsRising, IsSource, Link, List, MeansTrace, ProgramTree}
 use Rattle.sc_chain.proofs.Common.{CompSet}
 use Rattle.sc_chain.proofs.Common.{SourceParts, SourceRun, [], is_listed, ap, arith, blamed_are_there, c_arith}
-use Rattle.sc_chain.proofs.Common.{chain_is_least, chains_rise, concat, empty_set, eqb-true, false, length, map}
+use Rattle.sc_chain.proofs.Common.{chain_is_least, chains_rise, concat, eqb-true, false, length, map}
 use Rattle.sc_chain.proofs.Common.{meaning, new_texts, nobody, performing, recomposed, refl, scripted_meaning, subst}
 use Rattle.sc_chain.proofs.Common.{suc, sym, take, take-append-le, take_all, true, ℕ, ◌++◌, ◌<◌, ◌==◌, ◌||◌, ◌∙◌, ◌∷◌}
 use Rattle.sc_chain.proofs.Common.{◌≡◌, ◌≤◌}

@@ -1,13 +1,14 @@
 -- The machine's trace on the image of a program, as the chain of texts needs it.
 use Rattle.sc_chain.proofs.Common.{Accepts, All, All-map, CompSet, EmitsOrIsBlamed, Event, ImageParts, IsAccountOf}
 use Rattle.sc_chain.proofs.Common.{IsChainWith, IsCompiled, IsExplained, IsRobust, IsSource, IsWord, Link, List}
-use Rattle.sc_chain.proofs.Common.{MachineRun, Ok, Stop, recomposed}
+use Rattle.sc_chain.proofs.Common.{MachineRun, Ok, Option, Stop, recomposed}
 use Rattle.sc_chain.proofs.Common.{ProgramTree, SourceParts, [], ap, get_or, image_of, is_listed, legal, length}
 use Rattle.sc_chain.proofs.Common.{machine, map, refl, scripted_meaning, subst, suc, sym, true, word_of, ℕ, ℤ, ◌<◌}
 use Rattle.sc_chain.proofs.Common.{◌∷◌, ◌≡◌, ◌≤◌}
-use Rattle.std.specs.Prelude.{None}
 use Rattle.std.specs.List.{AllZip}
+use Rattle.sc_chain.specs.Prelude.{IsTrappedOf, performing_comps}
 use Rattle.sc_core.specs.declared.explanation.Explanation.{Explanation}
+use Rattle.sc_core.specs.declared.explanation.Trapped.{Trapped}
 use Rattle.sc_core_laws.specs.Prelude.{IsSubset}
 use Rattle.sc_image.specs.Prelude.{AreGiven}
 use Rattle.sc_linker.specs.Prelude.{HasInterface}
@@ -15,7 +16,7 @@ use Rattle.sc_word.proofs.Words.{word_of-lt}
 use Rattle.sc_chain.proofs.ChainTexts.{is_own_chain}
 
 -- words of inputs are words
-inputs_are_words : (inputs : List ℤ) → All IsWord (map word_of inputs)
+pub inputs_are_words : (inputs : List ℤ) → All IsWord (map word_of inputs)
 inputs_are_words inputs = All-map IsWord word_of inputs (λ i d inside. word_of-lt (get_or inputs i d))
 
 -- an image that does what its program means does so, too, as an image of which nobody is given
@@ -50,12 +51,15 @@ module _ (source : SourceParts) (inputs : List ℤ) (steps events : ℕ) (image 
   pub accounted : (observed trace : List Event) → trace ≡ observed → observed ≡ run.state.trace → (stop : Stop) →
       stop ≡ run.stop → (comps : List ℕ) → comps ≡ given → (links : List Link) →
       IsChainWith source (map word_of inputs) steps trace comps links →
+      (trapped : Option Trapped) →
+      IsTrappedOf source image (map word_of inputs) steps events (performing_comps given links) trapped →
       (length source.bytes ≤ 1048576 → (set : CompSet) → length (recomposed source observed set) ≤ 8388608) →
       IsAccountOf source image given (map word_of inputs) steps events
-      (record { trace = observed; stop = stop; trapped = None; given = given; links = links })
-  accounted observed trace same_trace emits stop stops comps same_comps links chain short = record {
+      (record { trace = observed; stop = stop; trapped = trapped; given = given; links = links })
+  accounted observed trace same_trace emits stop stops comps same_comps links chain trapped traps short = record {
     trace = emits;
     stop = stops;
+    trapped = traps;
     given = refl;
     chain = subst (λ t. IsChainWith source (map word_of inputs) steps t given links) same_trace
         (subst (λ cs. IsChainWith source (map word_of inputs) steps trace cs links) same_comps chain);
@@ -75,6 +79,7 @@ own_explained source inputs steps events image is_source one_program has_image r
   trace = account.trace;
   stop = account.stop;
   nobody_given = account.given;
+  trapped = account.trapped;
   chain = is_own_chain source inputs steps explanation.trace is_source one_program explanation.links account.chain;
   short = account.short;
 }

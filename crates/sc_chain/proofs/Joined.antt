@@ -1,6 +1,6 @@
 -- Sections one after another.
 use Rattle.sc_chain.proofs.Common.{List, Option, ap, append-nil, at_drop_all, concat, drop, length, new_texts, sym, ℕ}
-use Rattle.sc_chain.proofs.Common.{◌++◌, ◌+◌, ◌∙◌, ◌≡◌, ◌≤◌}
+use Rattle.sc_chain.proofs.Common.{◌++◌, ◌∙◌, ◌≡◌, ◌≤◌}
 
 -- the sections from this one on
 abbrev pub rest_of : (replace : ℕ → Option (List ℕ)) → (number : ℕ) → List (List ℕ) → List ℕ

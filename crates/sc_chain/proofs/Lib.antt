@@ -12,3 +12,4 @@ pub mod Recomposed
 pub mod Rows
 pub mod Safety
 pub mod Words
+pub mod Trapped

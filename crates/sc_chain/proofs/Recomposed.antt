@@ -4,12 +4,11 @@ use Rattle.sc_chain.proofs.Common.{IsScripted}
 use Rattle.sc_chain.proofs.Common.{IsSource, IsSplitInto, List, None, Option, TextPart, ProgramTree, Replacement, Some}
 use Rattle.sc_chain.proofs.Common.{SourceParts, [], is_listed, ap, ap₂, concat, eqb-true, false, if◌then◌else◌}
 use Rattle.sc_chain.proofs.Common.{joined_text}
-use Rattle.sc_chain.proofs.Common.{legal, length, list_any, map, meaning, new_text, new_texts, performing}
+use Rattle.sc_chain.proofs.Common.{legal, length, map, new_text, new_texts, performing}
 use Rattle.sc_chain.proofs.Common.{performing_text, recomposed, recursion_from_All, refl, replacement_of, subst, suc}
 use Rattle.sc_chain.proofs.Common.{sym, text_for, true, ℕ, ◌++◌, ◌<◌, ◌==◌, ◌||◌, ◌∙◌, ◌∷◌, ◌≡◌, ◌≤◌}
 use Rattle.std.proofs.lemmas.Result.{IfOk-weaker}
 use Rattle.std.specs.Prelude.{IfOk, Result}
-use Rattle.sc_lex.specs.Prelude.{IsSplit}
 use Rattle.sc_parse_read.proofs.Splits.{same_parts, same_preamble}
 use Rattle.sc_chain.proofs.Accepted as accepted
 use Rattle.sc_chain.proofs.Lengths.{part_bytes, within_limit}

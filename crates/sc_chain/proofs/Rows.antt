@@ -1,8 +1,8 @@
 -- The number of each row of a trace that isn't too long has a successor that is a word.
 use Rattle.sc_chain.proofs.Common.{All, All-from_recursion, AllByRecursion, Bool, Event, HasNext, List, None, Option}
-use Rattle.sc_chain.proofs.Common.{Row, Some, Standing, [], action_of, arith, at_start, false, if◌then◌else◌, length}
-use Rattle.sc_chain.proofs.Common.{part, performer, rows_from, stands_after, subst, suc, sym, true, ℕ, ◌+◌, ◌<◌, ◌==◌}
-use Rattle.sc_chain.proofs.Common.{◌^◌, ◌∷◌, ◌≡◌, ◌≤◌}
+use Rattle.sc_chain.proofs.Common.{Some, Standing, [], action_of, arith, at_start, false, if◌then◌else◌, length}
+use Rattle.sc_chain.proofs.Common.{part, performer, rows_from, stands_after, suc, true, ℕ, ◌+◌, ◌<◌, ◌==◌}
+use Rattle.sc_chain.proofs.Common.{◌^◌, ◌∷◌, ◌≤◌}
 
 numbers_low : (comp number : ℕ) (at : Option Standing) (trace : List Event) →
     suc (number + length trace) < 2 ^ 32 → AllByRecursion HasNext (rows_from comp number at trace)

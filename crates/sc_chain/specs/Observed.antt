@@ -19,15 +19,21 @@ pub record IsObserved (image : ImageParts) (inputs : List ℕ) (steps events : �
   pub taken : IsTaken image inputs events steps (loaded image) observed.taken
   pub few : length observed.trace ≤ events
 
--- by the meaning in which a set performs, with as many turns as steps were taken and one event more than there are
+-- who is named only where the stop is a trap
+abbrev pub if_trap : Stop → Trapped → Option Trapped
+if_trap Ended trapped = None
+if_trap EventsOut trapped = None
+if_trap StepsOut trapped = None
+if_trap (Trap reason pc) trapped = Some trapped
+
+-- the active compartment, by the meaning in which a set performs, with as many turns as steps were taken and one event
+-- more than there are
+abbrev pub active_in : ProgramTree → (set : ℕ → Bool) → (inputs : List ℕ) → MachineRun → Trapped
+active_in program set inputs observed = record {
+  comp = observed.active;
+  origin = origin_of (set observed.active)
+      (scripted_meaning program set observed.trace inputs observed.taken (suc (length observed.trace))).end;
+}
+
 abbrev pub trapped_in : ProgramTree → (set : ℕ → Bool) → (inputs : List ℕ) → MachineRun → Option Trapped
-trapped_in program set inputs observed = by observed.stop where
-  by : Stop → Option Trapped
-  by Ended = None
-  by EventsOut = None
-  by StepsOut = None
-  by (Trap reason pc) = Some (record {
-    comp = observed.active;
-    origin = origin_of (set observed.active)
-        (scripted_meaning program set observed.trace inputs observed.taken (suc (length observed.trace))).end;
-  })
+trapped_in program set inputs observed = if_trap observed.stop (active_in program set inputs observed)

@@ -7,7 +7,7 @@ pub use Rattle.sc_chain.specs.Faults.{IsAnotherProgram, IsFault, IsImageFault}
 pub use Rattle.sc_chain.specs.Laws.{OwnImagesAreExplained}
 pub use Rattle.sc_chain.specs.Safety.{RobustSafety}
 pub use Rattle.sc_chain.specs.Following.{IsNextLink, IsNextOf}
-pub use Rattle.sc_chain.specs.Observed.{IsObserved, trapped_in}
+pub use Rattle.sc_chain.specs.Observed.{IsObserved, active_in, if_trap, trapped_in}
 pub use Rattle.sc_chain.specs.Recompose.{joined_text, performing, performing_text, recomposed, text_for}
 pub use Rattle.sc_chain.specs.Replaced.{IsReplaced, IsScripted}
 pub use Rattle.sc_chain.specs.Sections.{replacement_of, section_at}

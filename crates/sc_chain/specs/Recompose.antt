@@ -1,7 +1,7 @@
 -- Texts in which some sections are replaced, all else byte for byte.
 use Rattle.sc_chain.specs.Common.{Event, Interfaces, Replacement, SourceParts, back_text, new_texts}
 use Rattle.sc_event.specs.Prelude.{part}
-use Rattle.std.specs.Prelude.{ℕ, ◌==◌, Bool, if◌then◌else◌, List, [], ◌∷◌, ◌++◌, map, Option, None, Some}
+use Rattle.std.specs.Prelude.{ℕ, ◌==◌, Bool, if◌then◌else◌, List, [], ◌∷◌, ◌++◌, Option, None, Some}
 use Rattle.std.specs.List.{concat}
 
 -- the text of the first replacement of a compartment, if there is one

@@ -7,8 +7,8 @@ ghost use Rattle.sc_chain.specs.Prelude.{trapped_in};
 ghost use Rattle.sc_core_laws.specs.Prelude.{IsSubset};
 ghost use Rattle.sc_word.specs.Prelude.{word_of};
 ghost use Rattle.sc_core.specs.Prelude.{scripted_meaning};
-ghost use Rattle.sc_compile.specs.Prelude.{EmitsOrIsBlamed, IsRobust};
-ghost use Rattle.std.specs.Prelude.{◌≡◌, ◌<◌, ◌≤◌, ℕ, Bool, true, length, map, All, IfOk, IfErr};
+ghost use Rattle.sc_compile.specs.Prelude.{EmitsOrIsBlamed, IsRobust, origin_of};
+ghost use Rattle.std.specs.Prelude.{◌≡◌, ◌<◌, ◌≤◌, ℕ, Bool, true, false, length, map, All, IfOk, IfErr};
 
 use crate::fault::{ExplainFault, ImageFault};
 use crate::replacing::{have_words, performing_text, replaced};
@@ -167,11 +167,27 @@ fn chain(
 fn performing_comps(alloc: Global, given: &[CompId], links: &[Link]) -> Result<CompIds, OutOfMemory>
     ensures { IfOk result (λ comps. comps ≡ performing_comps given.now links.now) }
 {
-    let mut comps = copied_comps(alloc, given)?;
+    let mut performing = copied_comps(alloc, given)?;
     for link in links {
-        comps.push(link.comp)?;
+        performing.push(link.comp)?;
     }
-    Ok(comps)
+    Ok(performing)
+}
+
+fn performs(comps: &[CompId], comp: CompId) -> bool
+    ensures { result ≡ is_listed comps.now comp }
+{
+    comps.iter().any(|one| *one == comp)
+}
+
+// Why a compartment that doesn't perform stands trapped, by the end of the meaning.
+fn honest_origin(end: RunEnd) -> TrapOrigin
+    ensures { result ≡ origin_of false end }
+{
+    match end {
+        RunEnd::Blamed { cause, line, .. } => TrapOrigin::Blamed { cause, line },
+        RunEnd::Ended | RunEnd::TurnsOut | RunEnd::EventsOut => TrapOrigin::FullStack,
+    }
 }
 
 // Who stands where a trap stopped the machine, and why, by the text in which these compartments perform. Its meaning has
@@ -193,7 +209,7 @@ fn trapped(
         return Ok(None);
     };
     let comp = observed.active;
-    if comps.iter().any(|one| *one == comp) {
+    if performs(comps, comp) {
         let origin = TrapOrigin::Replaced;
         return Ok(Some(Trapped { comp, origin }));
     }
@@ -203,10 +219,7 @@ fn trapped(
     };
     let trace = observed.trace.as_slice();
     let run = performed_run(alloc, source, comps, trace, inputs, limits)?;
-    let origin = match run.end {
-        RunEnd::Blamed { cause, line, .. } => TrapOrigin::Blamed { cause, line },
-        _ => TrapOrigin::FullStack,
-    };
+    let origin = honest_origin(run.end);
     Ok(Some(Trapped { comp, origin }))
 }
 

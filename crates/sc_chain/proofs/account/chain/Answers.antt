@@ -1,5 +1,6 @@
-use Rattle.sc_chain.proofs.Common.{All, ap, length, map, subst, sym, word_of, ◌<◌, ◌∙◌}
-use Rattle.sc_chain.proofs.ChainLoop.{at_first, at_last, at_next, fewer_next, known_next, run_of_text, sections_are}
+use Rattle.sc_chain.proofs.Common.{All, ap, is_listed, length, map, subst, sym, word_of, ◌<◌, ◌∙◌}
+use Rattle.sc_chain.proofs.ChainFollowing.{runs}
+use Rattle.sc_chain.proofs.ChainLoop.{at_first, at_last, at_next, fewer_next, known_next, sections_are}
 use Rattle.sc_chain.proofs.account.chain.Goals as goal
 
 pub loop-run-init : goal.loop-run-init
@@ -10,8 +11,8 @@ loop-run-init c =
     c.requires.known c.requires.scripted c.in_ok-run.run' c.in_ok-run.ensures c.new-links.result c.new-links.ensures
     c.in_ok-comps.comps c.in_ok-comps.ensures
 
-pub replaced-requires-clause-known : goal.replaced-requires-clause-known
-replaced-requires-clause-known c =
+pub performed_run-requires-in-Some-clause-known : goal.performed_run-requires-in-Some-clause-known
+performed_run-requires-in-Some-clause-known c =
     subst (All (λ comp. comp < length c.args.source.now.program.interfaces.comps)) (sym c.as_slice.ensures)
     (known_next c.args.source.now c.args.given.now (map word_of c.args.inputs.now) c.args.steps c.args.trace.now
     (sections_are c.args.source.now c.program-program.result.now c.program-program.ensures.program
@@ -40,9 +41,9 @@ loop-run-preserved c =
     (ap (λ tree. tree.interfaces) (c.tree-tree.ensures.tree ∙ c.program-program.ensures.program))
     c.in_ok-link.field-0 c.in_ok-link.ensures c.in-Some.link c.in-Some.is c.push-in-Some.new.self
     c.in_ok-push-2.ensures.ok c.push.new.self c.in_ok-push.ensures.ok c.in_ok-run-2.run'
-    (run_of_text c.args.source.now (map word_of c.args.inputs.now) c.args.steps c.args.trace.now
-    c.as_slice.result.now c.push.new.self c.in_ok-text.text c.in_ok-text.ensures.replaced c.as_slice.ensures
-    c.program.result.now c.program.ensures.program c.in_ok-run-2.run' c.in_ok-run-2.ensures)
+    (c.in_ok-run-2.ensures ∙
+    ap (λ cs. runs c.args.source.now (map word_of c.args.inputs.now) c.args.steps c.args.trace.now (is_listed cs))
+    c.as_slice.ensures)
 
 pub returns : goal.returns
 returns c =

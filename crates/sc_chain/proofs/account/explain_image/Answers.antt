@@ -1,4 +1,4 @@
-use Rattle.sc_chain.proofs.Common.{All, IsCompiled, IsRobust, Ok, image_of, is_listed, length, subst, ◌<◌, ◌≡◌}
+use Rattle.sc_chain.proofs.Common.{IsCompiled, Ok, image_of, is_listed, subst, ◌≡◌}
 use Rattle.std.specs.Prelude.{IfNone, IfSome, ℕ, Bool}
 use Rattle.sc_image.specs.Prelude.{AreGiven, IsButFor}
 use Rattle.sc_chain.proofs.ChainTrace.{given_known}
