@@ -36,7 +36,7 @@ struct Loaded {
     events: u32,
 }
 
-/// A loaded image on the machine with tags, and how far its run is.
+/// A loaded image on the machine with tags, and how far its run is. It doesn't count the steps of a call.
 #[derive(Drop)]
 pub struct TagMachine<S: Store> {
     loaded: Loaded,
@@ -68,6 +68,7 @@ impl<S: Store> Model for TagMachine<S> {
         trace = m.hart.trace.items;
         store = m.memory;
         stop = m.stop;
+        taken = 0;
       };
       ranges = m.loaded.ranges;
     } };
