@@ -3,7 +3,7 @@ use Rattle.sc_object.proofs.Common.{All, AreObjects, CanBeJoined, HasOwn, ImageP
 use Rattle.sc_object.proofs.Common.{List, None, ObjectParts, Some, [], ap, arith, differ_from, get_or, join_as}
 use Rattle.sc_object.proofs.Common.{join_fault, length, missing_from, slice_get, subst, sym, twice_from, ◌<◌, ◌∷◌}
 use Rattle.sc_object.proofs.Common.{◌≡◌, ◌≤◌}
-use Rattle.sc_object.proofs.Faults.{differs_first, has_none, missing_first, twice_first}
+use Rattle.sc_object.proofs.Faults.{differs_first, missing_first, twice_first}
 use Rattle.sc_linker.proofs.Places.{all_here}
 use Rattle.sc_object.specs.declared.linking.JoinFault.{JoinFault}
 
