@@ -19,7 +19,8 @@ OF_RUST = set("Self Some None Ok Err Option Result String Vec Box Drop Clone Cop
               " bool u8 u16 u32 u64 usize i8 i16 i32 i64 isize".split())
 MODIFIERS = {"abbrev", "pub", "private", "unfoldable", "opaque"}
 
-Kit = collections.namedtuple("Kit", "crate word")
+# a name of the kit: its crate and module, and the module and the word by which the kit knows it
+Kit = collections.namedtuple("Kit", "crate word module name", defaults=("", ""))
 
 
 class Unresolved(Exception):
@@ -248,9 +249,9 @@ class Thing:
         return sum(end - begin + 1 for begin, end in self.spans)
 
     @functools.lru_cache(None)
-    def cited(self):
-        """What it cites directly."""
-        targets = {}
+    def links(self):
+        """What each word cites directly."""
+        links = {}
         for scope, note in self.parts:
             walk = Walk(scope)
             note(walk)
@@ -258,10 +259,16 @@ class Thing:
                 there = scope.look(word)
                 if not there and word.split(".")[0] not in OF_RUST:
                     raise Unresolved(f"{self.file.path}:{line}: can't tell what {word} is")
-                targets.update(dict.fromkeys(there))
+                links.setdefault(word, []).extend(there)
         for name in self.types:
-            targets[self.file.resolve(name, self.line)] = None
-        return [it for it in targets if it not in (self, None)]
+            links.setdefault(name, []).append(self.file.resolve(name, self.line))
+        return links
+
+    @functools.lru_cache(None)
+    def cited(self):
+        """What it cites directly."""
+        return [it for it in dict.fromkeys(it for there in self.links().values() for it in there)
+                if it not in (self, None)]
 
 
 class Antt:

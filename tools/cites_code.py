@@ -257,7 +257,7 @@ class Repository:
         """What a module of specs/ or proofs/ means by a name."""
         steps = module.split(".")[1:]
         if steps[0] not in self.rank:
-            return Kit(steps[0], ".".join(steps[1:]))
+            return Kit(steps[0], ".".join(steps[1:]), module, name)
         if steps[2] not in ("declared", "contracts"):
             path = f"crates/{'/'.join(steps)}.antt"
             found = self.antt(path).scope.look(name) if os.path.exists(f"{self.top}/{path}") else []

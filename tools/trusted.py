@@ -2,165 +2,106 @@
 """Lists what has to be read to believe a claim: the definitions that the contracts of public calls reach.
 
 usage, at the top of the repository:
-  tools/trusted.py             writes docs/TRUSTED.md
-  tools/trusted.py --check     status 1 where docs/TRUSTED.md isn't what would be written, or --helping prints a file
-  tools/trusted.py --helping   prints the files of specs/ whose `-- Helping:` should be added or removed
-  tools/trusted.py --twice     prints the names that several files define, of those that are reached
-  tools/trusted.py --terms     prints the words in the names of what is reached, by count
+  tools/trusted.py              writes docs/TRUSTED.md
+  tools/trusted.py --check      status 1 where docs/TRUSTED.md isn't what would be written, or --helping prints a file
+  tools/trusted.py --html FILE  writes the same as one page, with the text of each definition and links between them
+  tools/trusted.py --helping    prints the files of specs/ whose `-- Helping:` should be added or removed
+  tools/trusted.py --twice      prints the names that several files define, of those that are reached
+  tools/trusted.py --terms      prints the words in the names of what is reached, by count
 
-It begins at the contract of sc_top::secomp and then at those of the public functions that README.md and docs/PROOFS.md
-name. tools/cites.py and tools/cites_code.py say what cites what. Types of the code count as contracts see them: by
-their fields, or by the `Value`, `view` and `invariant` of an `impl Model`. Proofs don't count.
+The list is in slices, one for each claim (tools/trusted_slices.py), and bottom up: a definition comes before its uses.
+tools/cites.py and tools/cites_code.py say what cites what, and tools/cites_kit.py follows names into the kit. Types of
+the code count as contracts see them: by their fields, or by the `Value`, `view` and `invariant` of an `impl Model`.
+Proofs don't count. Nothing of these tools is proved.
 """
 import collections
 import os
 import re
 import sys
+import textwrap
 
-from cites import Kit, Unresolved
+from cites import Unresolved
 from cites_code import Repository
 from sections import usage
+from trusted_html import page
+from trusted_slices import HEADLINE, IMAGE, Reach, Slices, counted, kit_places, ledger, other_calls, read
 
-HEADLINE = ("sc_top", "secomp")
 TARGET = "docs/TRUSTED.md"
-IMAGE = "image_of"
-DOCUMENTS = ("README.md", "docs/PROOFS.md")
 INNER = re.compile(r"sc_emit_|.*_laws$|sc_types_|sc_parse_|sc_run_value$")
 PASSING = ("Prelude.antt", "Common.antt", "Lib.antt")
 HEAD = """# What has to be read
 
-To believe what a contract of this repository claims, trust the prover and read the definitions that the contract cites,
-and those that they cite, down to the words of the kit. This file lists them: what the contract of `{headline}`
-reaches, which is the claim about the whole program; apart from it what only the name of the compiled image stands on;
-and what the other public calls that [`README.md`](../README.md) and [`PROOFS.md`](PROOFS.md) name reach beside that.
-Code and proofs aren't in it: the prover checks them against these definitions.
+To believe what a contract of this repository claims, you have to trust the prover, and to read the definitions that the
+contract cites, the definitions that those cite, and so on down to the words of the kit. This page lists them all. Code
+and proofs aren't in the list, because the prover checks them against these definitions.
 
-`tools/trusted.py` writes this file from the sources, and `tools/trusted.py --check` says whether it is up to date; the
-gate runs it. It follows each name by the imports of its file. A type of the code counts as contracts see it: a struct
-by its fields, or, where it has a model (`impl Model`), by the type of its values. A trait counts with the contracts of
-its functions. Files of `specs/` headed `Helping` only model code: no public call's contract reaches them.
+The list is in slices, one for each claim. A slice has only what the slices before it don't have, so the first one alone
+is what the headline claim needs. Within a slice the order is bottom up: a definition comes before its uses. The number
+after a name is its line.
 
-Read from the top: the contract of `{function}` at {place}, then the definitions of each crate in the order of the
-tables. The number after a definition is its line.
-"""
+{citations}
 
+`tools/trusted.py` writes this page from the sources, and the gate checks that it is up to date. With `--html FILE` it
+writes the same list as one HTML page with the text of each definition, in which each name links to its definition.
+A type of the code counts as contracts see it: a struct by its fields, or, where it has a model (`impl Model`), by the
+type of its values. A trait counts with the contracts of its functions. A file of `specs/` whose first line begins with
+`-- Helping:` only models code: the contract of no public call reaches it.
 
-def read(path):
-    """The text of a file."""
-    with open(path, encoding="utf-8") as it:
-        return it.read()
+| slice | definitions | lines | lines so far |
+|---|---:|---:|---:|"""
 
 
-class Reach:
-    """What is reached, in the order in which it is met."""
-
-    def __init__(self):
-        self.things, self.words = {}, {}
-
-    def take(self, root, closed=None):
-        """Adds what a call reaches, and gives what is new of it. What a name that is closed stands on is left out."""
-        new, waiting, seen = [], collections.deque([root]), {root}
-        while waiting:
-            thing = waiting.popleft()
-            if thing not in self.things:
-                new.append(thing)
-            for it in thing.cited() if thing.name != closed else ():
-                if isinstance(it, Kit):
-                    self.words[it] = None
-                elif it not in seen:
-                    seen.add(it)
-                    waiting.append(it)
-        self.things.update(dict.fromkeys(new))
-        return new
+def tables(slice_):
+    """A table for each crate of a slice: its files in the order of reading, with the definitions."""
+    rows, crate, path = [], None, None
+    for thing in slice_.things:
+        if thing.file.crate != crate:
+            crate, path = thing.file.crate, None
+            rows += ["", f"**`{crate}`**", "", "| file | definitions |", "|---|---|"]
+        if thing.file.path != path:
+            path = thing.file.path
+            rows.append(f"| `{os.path.relpath(path, 'crates/' + crate)}` | ")
+        else:
+            rows[-1] = rows[-1][:-2] + ", "
+        rows[-1] += f"`{thing.name}` {thing.line} |"
+    return [*rows[1:], ""]
 
 
-def named_calls(repository, text):
-    """The public functions that a document names, by crate and path. A bare name is one of the crate that was named
-    last in the paragraph, or else of the only crate that has a function of that name, where it has two words."""
-    calls, homes = {}, collections.defaultdict(list)
-    for crate in repository.crates:
-        if crate.startswith(("sc_", "rv_")):
-            for path in repository.public(crate):
-                homes[path].append(crate)
-    for paragraph in re.split(r"\n\s*\n|\n(?=[-#|])", text):
-        crate = owner = None
-        for quoted, after in re.findall(r"`((?:\w+)(?:::\w+)*)`('s (?:calls|arithmetic))?", paragraph):
-            first, *rest = quoted.split("::")
-            if first in repository.rank:
-                crate, owner = first, rest[0] if len(rest) == 2 else None
-                path = "::".join(rest)
-                found = repository.public(crate) if after else [path] if crate in homes[path] else []
-                calls.update(dict.fromkeys((crate, it) for it in found))
-                continue
-            tried = [f"{owner}::{quoted}", quoted] if crate else []
-            found = next(((crate, path) for path in tried if crate in homes[path]), None)
-            if not found and len(homes[quoted]) == 1 and ("_" in quoted or rest):
-                found = (homes[quoted][0], quoted)
-            if found:
-                calls[found] = None
-                owner = found[1].split("::")[0] if "::" in found[1] else owner
-    return calls
-
-
-def other_calls(repository):
-    """The calls that the documents name, but for the headline."""
-    calls = {}
-    for path in DOCUMENTS:
-        calls.update(named_calls(repository, read(f"{repository.top}/{path}")))
-    return {call: repository.public(call[0])[call[1]] for call in calls if call != HEADLINE}
-
-
-def tables(repository, things):
-    """A table for each crate, from the top down: its files in the order in which they are met, with the definitions."""
-    rows = []
-    for crate in sorted({thing.file.crate for thing in things}, key=repository.rank.get, reverse=True):
-        files = collections.OrderedDict()
-        for thing in things:
-            if thing.file.crate == crate:
-                files.setdefault(thing.file.path, []).append(thing)
-        rows += [f"**`{crate}`**", "", "| file | definitions |", "|---|---|"]
-        for path, inside in files.items():
-            names = ", ".join(f"`{it.name}` {it.line}" for it in sorted(inside, key=lambda it: it.line))
-            rows.append(f"| `{os.path.relpath(path, 'crates/' + crate)}` | {names} |")
-        rows.append("")
-    return rows
-
-
-def counted(things):
-    """How much that is, in words."""
-    files = {thing.file.path for thing in things}
-    lines = sum(thing.lines() for thing in things)
-    return f"{len(things):,} definitions in {len(files):,} files, {lines:,} lines"
-
-
-def kit_rows(words):
-    """The modules of the kit that are met."""
-    crates = collections.defaultdict(set)
-    for it in words:
-        crates[it.crate].add(it.word.replace("specs.", "", 1) if it.word.startswith("specs.") else it.word)
-    for crate in sorted(crates):
-        yield f"- `{crate}`: " + ", ".join(f"`{word}`" for word in sorted(crates[crate]))
+def kit_rows(reach):
+    """The definitions of the kit that are cited, with the files in which they stand."""
+    direct, more, built_in = kit_places(reach.words)
+    files = collections.defaultdict(lambda: ([], [], []))
+    for at, places in enumerate((direct, more)):
+        for place in places:
+            files[place.path][at].append(f"`{place.name}` {place.line}".replace("|", "\\|"))
+            files[place.path][2].append(place.lines)
+    cited, below = (sum(place.lines for place in places) for places in (direct, more))
+    text = (f"These definitions cite {len(direct)} definitions of the kit ({cited} lines), which stand on {len(more)} "
+            f"more ({below} lines). Paths are below the kit's folder `rattle`. "
+            f"Built into the prover are {', '.join(f'`{name}`' for name in built_in)}.")
+    yield from textwrap.wrap(text, 118, break_long_words=False, break_on_hyphens=False)
+    yield from ["", "| file | lines | cited here | what these stand on |", "|---|---:|---|---|"]
+    for path in sorted(files):
+        cited, below, lines = files[path]
+        yield f"| `{path}` | {sum(lines)} | {', '.join(cited)} | {', '.join(below)} |"
+    types = sorted({f"`{it.crate}::{it.word}`" for it in reach.words if not it.module})
+    yield from ["", f"Contracts also name these types of the kit's code: {', '.join(types)}."]
 
 
 def document(repository):
     """The text of docs/TRUSTED.md."""
-    reach, root = Reach(), repository.public(HEADLINE[0])[HEADLINE[1]]
-    headline = reach.take(root, IMAGE)
-    rows = HEAD.format(headline="::".join(HEADLINE), function=HEADLINE[1],
-                       place=f"`{root.file.path}:{root.line}`").split("\n")
-    rows += [f"## `{'::'.join(HEADLINE)}`", "", f"{counted(headline)}.", "", *tables(repository, headline)]
-    image = reach.take(root)
-    rows += [f"## What `{IMAGE}` stands on", "",
-             f"{counted(image)}, which nobody has to read: that three commands speak of one image is all that the name",
-             "says, and what the image does is `IsCompiled`, by the contract of `sc_compile::compile`.", "",
-             *tables(repository, image)]
-    calls = other_calls(repository)
-    others = [thing for call in calls.values() for thing in reach.take(call)]
-    rows += ["## The other calls", "", f"{counted(others)} beside these, for the contracts of:", ""]
-    rows += [", ".join(f"`{'::'.join(call)}`" for call in calls) + ".", "", *tables(repository, others)]
-    rows += ["## The kit", ""]
-    rows += [f"In all {counted(reach.things)}, which stand on these modules and types of the kit:", ""]
-    return "\n".join([*rows, *kit_rows(reach.words), ""])
+    slices = Slices(repository)
+    rows = HEAD.format(citations=slices.citations()).split("\n")
+    for it in slices.all:
+        rows.append(f"| [{it.title}](#{it.anchor}) | {len(it.things):,} | {it.lines:,} | {it.so_far:,} |")
+    rows += ["| [The kit](#the-kit) | | | |", ""]
+    for it in slices.all:
+        text = textwrap.wrap(" ".join(it.text), 118, break_long_words=False, break_on_hyphens=False)
+        rows += [f'<a id="{it.anchor}"></a>', "", f"## {it.title}", "", *text, "", f"{counted(it.things)}.", ""]
+        rows += tables(it)
+    rows += ["## Defaults that no run meets", "", *ledger(repository, slices.reach), "", "## The kit", ""]
+    rows += [*kit_rows(slices.reach), ""]
+    return "\n".join(rows)
 
 
 def everything(repository, inner):
@@ -216,16 +157,18 @@ def main(words):
     repository = Repository(os.path.dirname(os.path.dirname(os.path.realpath(__file__))))
     prints = {"--helping": helping, "--twice": twice, "--terms": terms}
     target = f"{repository.top}/{TARGET}"
-    usage(__doc__, not words or len(words) == 1 and words[0] in [*prints, "--check"])
+    usage(__doc__, not words or len(words) == 1 and words[0] in [*prints, "--check"] or
+          len(words) == 2 and words[0] == "--html")
     try:
         if words and words[0] in prints:
             print("\n".join(prints[words[0]](repository)))
             return
-        text = document(repository)
+        html = words[:1] == ["--html"]
+        text = page(Slices(repository)) if html else document(repository)
     except Unresolved as it:
         raise SystemExit(f"tools/trusted.py: {it}")
-    if not words:
-        with open(target, "w", encoding="utf-8") as it:
+    if html or not words:
+        with open(words[1] if html else target, "w", encoding="utf-8") as it:
             it.write(text)
     elif not os.path.exists(target) or read(target) != text:
         raise SystemExit(f"{TARGET} isn't what the sources give: run tools/trusted.py")
