@@ -104,8 +104,9 @@ class KitNames:
         """The Rust type of a module of declared types."""
         _, crate, *rest = module.split(".")
         name = next((step for step in rest if step[0].isupper()), None)
-        own = f"{self.folder}/{crate}/src/{'/'.join(step for step in rest if step.islower())}.rt"
-        paths = sorted(glob.glob(f"{self.folder}/{crate}/src/**/*.rt", recursive=True), key=lambda it: (it != own, it))
+        top = f"{self.folder}/{crate}/src/{'/'.join(step for step in rest[2:] if step.islower())}"
+        found = glob.glob(f"{self.folder}/{crate}/src/**/*.rt", recursive=True)
+        paths = sorted(found, key=lambda it: (it not in (f"{top}.rt", f"{top}/mod.rt"), it))
         for path in paths if name else []:
             with open(path, encoding="utf-8") as it:
                 rows = it.read().split("\n")

@@ -198,7 +198,7 @@ class Slices:
         self.crates = crate_ranks(repository)
         for title, text, names in CLAIMS:
             self.add(title, [text], [self.root(*name) for name in names], IMAGE)
-        text = [f"Nobody has to read these: all that the name `{IMAGE}` says is that several commands speak of one image.",
+        text = [f"Nobody has to read these: the name `{IMAGE}` says only that several commands speak of one image.",
                 "What the image does is `IsCompiled`, which the first slice has."]
         self.add(f"What `{IMAGE}` stands on", text, [self.root(*HEADLINE)], None)
         for title, calls in calls_by_part(repository).items():
@@ -229,8 +229,8 @@ class Slices:
         pairs = [(thing, it) for thing in order for it in thing.cited() if it in order]
         later = [(thing, it) for thing, it in pairs if order[it] > order[thing]]
         images = sum(thing.name == IMAGE for thing, it in later)
-        return (f"Of {len(pairs):,} citations {len(later):,} lead to a later definition: {images:,} by `{IMAGE}`, which the "
-                f"other\nslices take as a bare name, and {len(later) - images:,} by definitions that cite one another.")
+        return (f"Of {len(pairs):,} citations {len(later):,} lead to a later definition: {images:,} by `{IMAGE}`, which "
+                f"the other\nslices take as a bare name, and {len(later) - images:,} where definitions cite one another.")
 
 
 def ledger(repository, reach):
@@ -244,8 +244,8 @@ def ledger(repository, reach):
                 if law.split("::")[-1] not in laws:
                     raise Unresolved(f"{path}:{number}: no public function is called {law}")
                 found.append(f"| `{path}:{number}` | `{law}` |")
-    yield "A definition has to answer also where no run asks it. A comment `never met: LAW` marks such a default, with the"
-    yield f"law that excludes it. {len(found)} {'is' if len(found) == 1 else 'are'} marked."
+    yield "A definition has to answer also where no run asks it. A comment `never met: LAW` marks such a default, with"
+    yield f"the law that excludes it. {len(found)} {'is' if len(found) == 1 else 'are'} marked."
     yield from ["", "| default | law |", "|---|---|", *found] if found else []
 
 
