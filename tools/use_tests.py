@@ -199,9 +199,9 @@ HELPED = ["tools/check-runs", "tools/policy", "tools/campaign", "tools/run", "to
           "tools/image", "tools/sanitized", "tools/language_server", "tools/check-documents", "tools/release",
           "examples/draw"]
 HELPED += [f"tools/{name}.py" for name in (
-    "bad_input_tests checked document_faults elide ends evaluation_tests fast fast_tests language_tests lemmas mistakes pages "
-    "policy_tests quotes real refuse_allocations sessions stub tool_sessions trusted unused use_tests "
-    "wrapper_tests").split()]
+    "bad_input_tests checked document_faults elide ends evaluation_tests fast fast_tests language_tests lemmas "
+    "mistakes pages policy_tests quotes real refuse_allocations sessions stub tool_sessions "
+    "trusted unused use_tests wrapper_tests").split()]
 for TOOL in HELPED:
     WORDS = f"{'python3 ' * TOOL.endswith('.py')}{TOOL}"
     USES += [(f"{WORDS} --help", 0, [os.path.basename(TOOL)]), (f"{WORDS} --no-such-option", 2, [])]
