@@ -144,6 +144,20 @@ class KitNames:
                     elif it in file.names:
                         yield self.find(*file.names[it])
 
+    @staticmethod
+    def place(found):
+        """The place of what was found, or nothing."""
+        if found is None or isinstance(found, Place):
+            return found
+        begin, end = found[0].blocks[found[1]]
+        head = DECLARED.match(found[0].rows[begin])[3].strip("«»")
+        return Place(found[0].path, head, begin + 1, end - begin)
+
+    def text(self, place):
+        """The text of a definition."""
+        with open(f"{self.folder}/{place.path}", encoding="utf-8") as it:
+            return "\n".join(it.read().split("\n")[place.line - 1:place.line - 1 + place.lines])
+
     def closure(self, asked):
         """The places of what is asked for, by (module, name), and of what those cite in turn; and the names that have
         no file."""
@@ -157,9 +171,7 @@ class KitNames:
             if isinstance(found, Place):
                 (direct if is_direct else more)[found] = None
                 continue
-            begin, end = found[0].blocks[found[1]]
-            head = DECLARED.match(found[0].rows[begin])[3].strip("«»")
-            place = Place(found[0].path, head, begin + 1, end - begin)
+            place = self.place(found)
             (direct if is_direct else more)[place] = None
             if place not in seen:
                 seen.add(place)

@@ -94,7 +94,10 @@ def document(repository):
     rows = HEAD.format(citations=slices.citations()).split("\n")
     for it in slices.all:
         rows.append(f"| [{it.title}](#{it.anchor}) | {len(it.things):,} | {it.lines:,} | {it.so_far:,} |")
-    rows += ["| [The kit](#the-kit) | | | |", ""]
+    direct, more, _ = kit_places(slices.reach.words)
+    lines = sum(place.lines for place in [*direct, *more])
+    total = slices.all[-1].so_far + lines
+    rows += [f"| [The kit](#the-kit) | {len(direct) + len(more):,} | {lines:,} | {total:,} |", ""]
     for it in slices.all:
         text = textwrap.wrap(" ".join(it.text), 118, break_long_words=False, break_on_hyphens=False)
         rows += [f'<a id="{it.anchor}"></a>', "", f"## {it.title}", "", *text, "", f"{counted(it.things)}.", ""]

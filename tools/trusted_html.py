@@ -4,6 +4,7 @@ import html
 import re
 
 from cites import PIECE, Kit
+from trusted_slices import kit_names, kit_places, ledger
 
 WORD = re.compile(rf"(?P<comment>(?:--|//)[^\n]*)|(?P<string>\"(?:\\.|[^\"\\])*\")|(?P<word>{PIECE}(?:\.{PIECE})*)")
 STYLE = """
@@ -24,6 +25,7 @@ pre { background: var(--code); border: 1px solid var(--line); border-radius: 4px
   font: 13px/1.45 ui-monospace, monospace; overflow-x: auto; padding: .6rem .8rem; }
 :target pre { border-color: var(--link); }
 .c { color: var(--soft); }
+a.k { color: inherit; }
 """
 
 
@@ -40,8 +42,21 @@ def comment_above(rows, first):
     return first
 
 
-def linked(thing, text, listed):
-    """A text with a link at each word that cites a listed definition."""
+def kit_anchor(place):
+    """The name of the place of a definition of the kit."""
+    return html.escape(f"kit/{place.path}:{place.line}", quote=True)
+
+
+def kit_link(names, it, shown):
+    """A name of the kit, with a link to its definition if it has one there."""
+    place = names.place(names.find(it.module, it.name)) if it.module else None
+    if place:
+        return f'<a class="k" href="#{kit_anchor(place)}">{shown}</a>'
+    return f'<span title="{html.escape(f"kit: {it.module or it.word}")}">{shown}</span>'
+
+
+def linked(thing, text, listed, names):
+    """A text with a link at each word that cites a listed definition, or one of the kit."""
     links, out, place = thing.links(), [], 0
     for found in WORD.finditer(text):
         out.append(html.escape(text[place:found.start()]))
@@ -54,13 +69,13 @@ def linked(thing, text, listed):
         elif target and target is not thing:
             shown = f'<a href="#{anchor(target)}">{shown}</a>'
         elif kit:
-            shown = f'<span title="{html.escape(f"kit: {kit.module or kit.word}")}">{shown}</span>'
+            shown = kit_link(names, kit, shown)
         out.append(shown)
         place = found.end()
     return "".join([*out, html.escape(text[place:])])
 
 
-def block(thing, listed, count, lines):
+def block(thing, listed, names, count, lines):
     """A definition: its place, the counts up to it, and its text."""
     rows, pieces = thing.file.rows, []
     for begin, end in thing.spans:
@@ -68,7 +83,7 @@ def block(thing, listed, count, lines):
         pieces.append("\n".join(rows[first - 1:end]))
     return (f'<section id="{anchor(thing)}"><div class="at"><span>{html.escape(thing.file.path)}:{thing.line}</span>'
             f"<span>{count:,} definitions, {lines:,} lines so far</span></div>"
-            f'<pre>{linked(thing, chr(10).join(pieces), listed)}</pre></section>')
+            f'<pre>{linked(thing, chr(10).join(pieces), listed, names)}</pre></section>')
 
 
 def quoted(text):
@@ -78,7 +93,7 @@ def quoted(text):
 
 def page(slices):
     """The whole page."""
-    listed = {thing for it in slices.all for thing in it.things}
+    listed, names = {thing for it in slices.all for thing in it.things}, kit_names()
     out = ['<!doctype html><html lang="en"><head><meta charset="utf-8"><title>What has to be read</title>',
            f"<meta name=\"viewport\" content=\"width=device-width\"><style>{STYLE}</style></head><body>",
            "<h1>What has to be read</h1><p>These are the definitions on which the proved claims of <code>secomp</code> "
@@ -97,5 +112,17 @@ def page(slices):
             if thing.file.crate != crate:
                 crate = thing.file.crate
                 out.append(f"<h3>{html.escape(crate)}</h3>")
-            out.append(block(thing, listed, count, lines))
-    return "\n".join([*out, "</body></html>", ""])
+            out.append(block(thing, listed, names, count, lines))
+    out.append(f"<h2>Defaults that no run meets</h2><p>{quoted(' '.join(ledger(slices.repository, slices.reach)))}</p>")
+    return "\n".join([*out, *kit_blocks(slices, names), "</body></html>", ""])
+
+
+def kit_blocks(slices, names):
+    """The definitions of the kit, by file, with those that are cited here before those that they stand on."""
+    direct, more, built_in = kit_places(slices.reach.words)
+    yield (f'<h2 id="the-kit">The kit</h2><p>{len(direct)} definitions are cited here, of '
+           f"{sum(it.lines for it in direct)} lines. They stand on {len(more)} more, of {sum(it.lines for it in more)} "
+           f"lines. Built into the prover are {quoted(', '.join(f'`{name}`' for name in built_in))}.</p>")
+    for place in [*direct, *more]:
+        yield (f'<section id="{kit_anchor(place)}"><div class="at"><span>{html.escape(place.path)}:{place.line}</span>'
+               f"</div><pre>{html.escape(names.text(place))}</pre></section>")

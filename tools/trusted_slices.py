@@ -229,8 +229,8 @@ class Slices:
         pairs = [(thing, it) for thing in order for it in thing.cited() if it in order]
         later = [(thing, it) for thing, it in pairs if order[it] > order[thing]]
         images = sum(thing.name == IMAGE for thing, it in later)
-        return (f"Of {len(pairs):,} citations {len(later):,} lead to a later definition: {images:,} by `{IMAGE}`, which "
-                f"the other\nslices take as a bare name, and {len(later) - images:,} where definitions cite one another.")
+        return (f"Of {len(pairs):,} citations {len(later):,} lead to a later definition: {images:,} by `{IMAGE}`, which\n"
+                f"the other slices take as a bare name, and {len(later) - images:,} where definitions cite one another.")
 
 
 def ledger(repository, reach):
@@ -249,9 +249,14 @@ def ledger(repository, reach):
     yield from ["", "| default | law |", "|---|---|", *found] if found else []
 
 
-def kit_places(words):
-    """The places in the kit of what is cited, of what that stands on, and the names that are built in."""
+def kit_names():
+    """The kit on the path."""
     folder = kit_folder()
     if folder is None:
         raise Unresolved("`rt` of the Rattle kit has to be on the path, for the kit's definitions")
-    return KitNames(folder).closure(sorted({(it.module, it.name) for it in words if it.module}))
+    return KitNames(folder)
+
+
+def kit_places(words):
+    """The places in the kit of what is cited, of what that stands on, and the names that are built in."""
+    return kit_names().closure(sorted({(it.module, it.name) for it in words if it.module}))
