@@ -229,8 +229,9 @@ class Slices:
         pairs = [(thing, it) for thing in order for it in thing.cited() if it in order]
         later = [(thing, it) for thing, it in pairs if order[it] > order[thing]]
         images = sum(thing.name == IMAGE for thing, it in later)
+        others = len(later) - images
         return (f"Of {len(pairs):,} citations {len(later):,} lead to a later definition: {images:,} by `{IMAGE}`, which\n"
-                f"the other slices take as a bare name, and {len(later) - images:,} where definitions cite one another.")
+                f"the other slices take as a bare name, and {others:,} where definitions cite one another.")
 
 
 def ledger(repository, reach):
