@@ -230,8 +230,8 @@ class Slices:
         later = [(thing, it) for thing, it in pairs if order[it] > order[thing]]
         images = sum(thing.name == IMAGE for thing, it in later)
         others = len(later) - images
-        return (f"Of {len(pairs):,} citations {len(later):,} lead to a later definition: {images:,} by `{IMAGE}`, which\n"
-                f"the other slices take as a bare name, and {others:,} where definitions cite one another.")
+        return (f"Of {len(pairs):,} citations {len(later):,} lead to a later definition: {images:,} by `{IMAGE}`,\n"
+                f"which the other slices take as a bare name, and {others:,} where definitions cite one another.")
 
 
 def ledger(repository, reach):

@@ -196,12 +196,15 @@ USES = [
     (f"$S explain < {STORE} | examples/draw --html {STORE} | head -n 1", 0, ["<!doctype html>"]),
 ]
 HELPED = ["tools/check-runs", "tools/policy", "tools/campaign", "tools/run", "tools/bytes", "tools/where", "tools/why",
-          "tools/image", "tools/sanitized", "tools/language_server", "tools/check-documents", "tools/release",
-          "examples/draw"]
+          "tools/image", "tools/sanitized", "tools/language_server", "tools/attack", "tools/secret", "tools/foreign",
+          "tools/port", "tools/check-documents", "tools/release", "examples/draw"]
 HELPED += [f"tools/{name}.py" for name in (
-    "bad_input_tests checked document_faults elide ends evaluation_tests fast fast_tests language_tests lemmas "
-    "mistakes pages policy_tests quotes real refuse_allocations sessions stub tool_sessions "
-    "trusted unused use_tests wrapper_tests").split()]
+    "attack_sessions bad_input_tests checked document_faults elide ends evaluation_tests fast fast_tests "
+    "foreign_libraries foreign_sessions language_tests lemmas mistakes out_of_memory pages policy_tests port_libraries "
+    "port_sessions port_torture quotes real refuse_allocations repeated sessions source_tests stub tool_sessions trusted "
+    "unused use_tests wrapper_tests").split()]
+HELPED += [f"bench/{name}.py" for name in (
+    "chains each_byte exec folding gate given hostile judge limits outsider riscv_loops trapped turns zone").split()]
 for TOOL in HELPED:
     WORDS = f"{'python3 ' * TOOL.endswith('.py')}{TOOL}"
     USES += [(f"{WORDS} --help", 0, [os.path.basename(TOOL)]), (f"{WORDS} --no-such-option", 2, [])]
