@@ -10,7 +10,7 @@ import subprocess
 import sys
 import tempfile
 
-from sections import TOP, count, start
+from sections import TOP, count, repository_files, start
 
 # a check, a file, what stands there once, what is put in its place, and a part of the refusal
 FAULTS = [
@@ -37,11 +37,9 @@ FAULTS = [
 
 def copied(folder):
     """A copy of the repository's files, with a git repository of its own in which all is committed."""
-    names = subprocess.run(["git", "-C", TOP, "ls-files", "-z"], capture_output=True, check=True).stdout
-    for name in filter(None, names.decode().split("\0")):
-        if os.path.isfile(f"{TOP}/{name}"):
-            os.makedirs(os.path.dirname(f"{folder}/{name}"), exist_ok=True)
-            shutil.copy2(f"{TOP}/{name}", f"{folder}/{name}")
+    for name in repository_files():
+        os.makedirs(os.path.dirname(f"{folder}/{name}"), exist_ok=True)
+        shutil.copy2(f"{TOP}/{name}", f"{folder}/{name}")
     git = ["git", "-C", folder, "-c", "user.name=test", "-c", "user.email=test@test.example"]
     for words in (["init", "-q"], ["add", "-A"], ["commit", "-q", "-m", "A copy"]):
         subprocess.run([*git, *words], check=True)

@@ -104,6 +104,21 @@ def commands(document):
             yield line[6:], "".join(shown), "\n".join(lines[number + 1:])
 
 
+def repository_files():
+    """The files of the repository: those that git knows or would take, or, where this isn't a checkout of git, all but
+    what is built."""
+    words = ["git", "-C", TOP, "ls-files", "-z", "--cached", "--others", "--exclude-standard"]
+    ran = subprocess.run(words, capture_output=True, check=False)
+    if ran.returncode == 0:
+        names = {name for name in ran.stdout.decode().split("\0") if name}
+        return sorted(name for name in names if os.path.isfile(f"{TOP}/{name}"))
+    found = []
+    for folder, below, names in os.walk(TOP):
+        below[:] = [name for name in below if name not in ("out", ".git", "__pycache__")]
+        found += [os.path.relpath(f"{folder}/{name}", TOP) for name in names]
+    return sorted(found)
+
+
 def count(answers):
     """Prints each answer of a test that isn't empty, since it says why the test failed, and at the end how many passed
     and how many failed. The status of a program that ran these tests."""
