@@ -24,7 +24,7 @@ from cites import Unresolved
 from cites_code import Repository
 from sections import usage
 from trusted_html import page
-from trusted_slices import HEADLINE, IMAGE, Reach, Slices, counted, kit_places, ledger, other_calls, read
+from trusted_slices import HEADLINE, Reach, Slices, counted, kit_places, ledger, other_calls, read
 
 TARGET = "docs/TRUSTED.md"
 INNER = re.compile(r"sc_emit_|.*_laws$|sc_types_|sc_parse_|sc_run_value$")

@@ -7,7 +7,8 @@ from cites import Kit, Unresolved
 from cites_kit import KitNames, kit_folder
 
 HEADLINE = ("sc_top", "secomp")
-IMAGE = "image_of"
+# Names that say only what they are functions of: what they stand on comes after the claims that cite them.
+CLOSED = ("image_of", "section_part")
 DOCUMENTS = ("README.md", "docs/PROOFS.md")
 # The slices that the program's contract is cut into: a title, what it says, and from where its definitions are reached,
 # by crate and name of a public call or of a definition of specs/.
@@ -48,14 +49,14 @@ class Reach:
     def __init__(self):
         self.things, self.words = {}, {}
 
-    def take(self, root, closed=None):
-        """Adds what a call reaches, and gives what is new of it. What a name that is closed stands on is left out."""
+    def take(self, root, closed=()):
+        """Adds what a call reaches, and gives what is new of it. What the closed names stand on is left out."""
         new, waiting, seen = [], collections.deque([root]), {root}
         while waiting:
             thing = waiting.popleft()
             if thing not in self.things:
                 new.append(thing)
-            for it in thing.cited() if thing.name != closed else ():
+            for it in thing.cited() if thing.name not in closed else ():
                 if isinstance(it, Kit):
                     self.words[it] = None
                 elif it not in seen:
@@ -197,13 +198,14 @@ class Slices:
         self.repository, self.reach, self.all = repository, Reach(), []
         self.crates = crate_ranks(repository)
         for title, text, names in CLAIMS:
-            self.add(title, [text], [self.root(*name) for name in names], IMAGE)
-        text = [f"Nobody has to read these: the name `{IMAGE}` says only that several commands speak of one image.",
-                "What the image does is `IsCompiled`, which the first slice has."]
-        self.add(f"What `{IMAGE}` stands on", text, [self.root(*HEADLINE)], None)
+            self.add(title, [text], [self.root(*name) for name in names], CLOSED)
+        text = ["Nobody has to read these. The name `image_of` says only that several commands speak of one image: what",
+                "the image does is `IsCompiled`, which the first slice has. The name `section_part` says only that a",
+                "compartment's part of the image depends on the interfaces and its own section."]
+        self.add("What `image_of` and `section_part` stand on", text, [self.root(*HEADLINE)], ())
         for title, calls in calls_by_part(repository).items():
             names = ", ".join(f"`{'::'.join(call)}`" for call in calls)
-            self.add(f"{title}: the other calls", [f"For the contracts of {names}."], calls.values(), None)
+            self.add(f"{title}: the other calls", [f"For the contracts of {names}."], calls.values(), ())
 
     def root(self, crate, name):
         """A public call, or a definition of specs/, by its name."""
@@ -228,10 +230,11 @@ class Slices:
         order = {thing: at for at, thing in enumerate(it for slice_ in self.all for it in slice_.things)}
         pairs = [(thing, it) for thing in order for it in thing.cited() if it in order]
         later = [(thing, it) for thing, it in pairs if order[it] > order[thing]]
-        images = sum(thing.name == IMAGE for thing, it in later)
-        others = len(later) - images
-        return (f"Of {len(pairs):,} citations {len(later):,} lead to a later definition: {images:,} by `{IMAGE}`,\n"
-                f"which the other slices take as a bare name, and {others:,} where definitions cite one another.")
+        closed = sum(thing.name in CLOSED for thing, it in later)
+        others = len(later) - closed
+        return (f"Of {len(pairs):,} citations {len(later):,} lead to a later definition: {closed:,} by `image_of` and\n"
+                f"`section_part`, of which the claims only take the names, and {others:,} where definitions cite\n"
+                "one another.")
 
 
 def ledger(repository, reach):
