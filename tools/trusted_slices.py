@@ -199,8 +199,8 @@ class Slices:
         self.crates = crate_ranks(repository)
         for title, text, names in CLAIMS:
             self.add(title, [text], [self.root(*name) for name in names], CLOSED)
-        text = ["Nobody has to read these. The name `image_of` says only that several commands speak of one image: what",
-                "the image does is `IsCompiled`, which the first slice has. The name `section_part` says only that a",
+        text = ["Nobody has to read these. The name `image_of` says only that several commands speak of one image:",
+                "what the image does is `IsCompiled`, which the first slice has. The name `section_part` says only that a",
                 "compartment's part of the image depends on the interfaces and its own section."]
         self.add("What `image_of` and `section_part` stand on", text, [self.root(*HEADLINE)], ())
         for title, calls in calls_by_part(repository).items():
