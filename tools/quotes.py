@@ -9,8 +9,8 @@ A quote is a fenced block of code directly below a line
 
   <!-- quote sc_chain/specs/Chain.antt IsChainWith -->
 
-which names a file of crates/ and a definition in it. `NAME.FIELD` quotes one field of a record, and in a file of code one
-clause of a function. The block is the file's text, verbatim but for the indentation that all its lines share.
+which names a file of crates/ and a definition in it. `NAME.FIELD` quotes one field of a record, and in a file of code
+one clause of a function. The block is the file's text, verbatim but for the indentation that all its lines share.
 """
 import argparse
 import glob

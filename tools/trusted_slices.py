@@ -200,8 +200,8 @@ class Slices:
         for title, text, names in CLAIMS:
             self.add(title, [text], [self.root(*name) for name in names], CLOSED)
         text = ["Nobody has to read these. The name `image_of` says only that several commands speak of one image:",
-                "what the image does is `IsCompiled`, which the first slice has. The name `section_part` says only that a",
-                "compartment's part of the image depends on the interfaces and its own section."]
+                "what the image does is `IsCompiled`, which the first slice has. The name `section_part` says only",
+                "that a compartment's part of the image depends on the interfaces and its own section."]
         self.add("What `image_of` and `section_part` stand on", text, [self.root(*HEADLINE)], ())
         for title, calls in calls_by_part(repository).items():
             names = ", ".join(f"`{'::'.join(call)}`" for call in calls)
