@@ -30,6 +30,10 @@ def add_number(to, register, value):
     return (value & 0xfff) << 20 | register << 15 | to << 7 | 0x13
 
 
+def add(to, one, other):
+    return other << 20 | one << 15 | to << 7 | 0x33
+
+
 def load(to, register, offset):
     """lw"""
     return (offset & 0xfff) << 20 | register << 15 | 2 << 12 | to << 7 | 0x03
