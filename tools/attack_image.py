@@ -30,11 +30,11 @@ class Assembler:
         self.number, self.interface, self.part, self.entries, self.noise = number, interface, part, entries, noise
         self.words = []
 
-    def value(self, register, value):
-        """Puts a value into a register."""
-        if not isinstance(value, list):
-            return load_word(register, value or 0)
-        kind, more = value
+    def value(self, register, value, has_round=False):
+        """Puts a value into a register; the number of a round only where there are rounds."""
+        kind, more = value if isinstance(value, list) else (None, value or 0)
+        if not kind or kind == "round" and not has_round:
+            return load_word(register, more)
         words = load_word(T0, globals_start(self.number)) + [load(T1, T0, RESULT)] if kind == "result" else \
             [load(T1, SP, PLACES[kind])]
         return words + load_word(register, more) + [add(register, register, T1)]
@@ -54,7 +54,7 @@ class Assembler:
         owner, result, types = self.interface.imports[function]
         words = self.pieces()
         for at, value in enumerate((values + [0] * len(types))[:len(types)]):
-            words += self.value(A0 + at, value)
+            words += self.value(A0 + at, value, times > 1)
         words += load_word(A7, INPUT if function == "input" else OUTPUT) + [ECALL] if owner == "Env" else \
             call_at(self.entries[owner][function])
         if result != "void":

@@ -174,8 +174,8 @@ class Search:
             self.change(child["parts"][name], self.faces[name], chance)
         if len(self.recorded) > 1 and chance.random() < 0.1:
             child["input"] = chance.choice(self.recorded)["input"]
-        if self.has_code and (kind := chance.random()) < 0.5:
-            child["code"] = ["random" if kind < 0.2 else "noise", chance.getrandbits(32)]
+        if self.has_code and (kind := chance.random()) < 0.3:
+            child["code"] = ["random" if kind < 0.1 else "noise", chance.getrandbits(32)]
         return child
 
     def drawn_call(self, face, chance):
