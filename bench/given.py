@@ -19,6 +19,7 @@ usage: bench/given.py [--texts N] [--seed S] [--secomp PROGRAM] [--keep DIR]
 """
 import collections
 import itertools
+import os
 import random
 import re
 import struct
@@ -27,14 +28,14 @@ import sys
 from concurrent.futures import ThreadPoolExecutor
 
 sys.dont_write_bytecode = True
+sys.path.append(os.path.join(os.path.dirname(os.path.dirname(os.path.realpath(__file__))), "tools"))
 from chains import LINK, MOST_SETS, sections_of
+from machine_code import Code, code_start, written
 from outsider_texts import Maker
 from seeds import arguments, keep
 
-CODE_START, DATA_START, STRETCH, STACK = 0x01000000, 0x10000000, 0x100000, 65536
 GIVEN = re.compile(r"given (\w+)")
 OTHER = b"#pragma compartment Alone\nint main(void) { return 0; }\n"
-EBREAK, ECALL, RETURN = 0x00100073, 0x00000073, 0x00008067
 
 
 class Image:
@@ -75,71 +76,6 @@ class Image:
         return out
 
 
-def load_word(register, value):
-    """Two instructions that put a word into a register."""
-    low = (value & 0xfff) - (0x1000 if value & 0x800 else 0)
-    return [((value - low) & 0xfffff000) | register << 7 | 0x37,
-            (low & 0xfff) << 20 | register << 15 | register << 7 | 0x13]
-
-
-class Code:
-    """Instructions of a compartment, from random numbers."""
-
-    def __init__(self, draw, image, number):
-        self.draw, self.image, self.number = draw, image, number
-
-    def address(self):
-        """An address of data: mostly around the compartment's own globals, else around another's or anywhere."""
-        owner = self.number if self.draw.random() < 0.6 else self.draw.randrange(len(self.image.comps))
-        near = DATA_START + owner * STRETCH + STACK + 4 * self.draw.randrange(-8, 16)
-        return near if self.draw.random() < 0.9 else self.draw.getrandbits(32)
-
-    def call(self):
-        """A call of what the compartment imports, or of any export."""
-        targets = [self.image.comps[comp]["entries"][index]
-                   for comp, index in self.image.comps[self.number]["imports"]]
-        if not targets or self.draw.random() < 0.1:
-            targets = [entry for comp in self.image.comps for entry in comp["entries"]]
-        if not targets:
-            return [EBREAK]
-        return load_word(5, self.draw.choice(targets)) + [5 << 15 | 1 << 7 | 0x67]
-
-    def memory(self):
-        """A load or a store."""
-        load = self.draw.random() < 0.5
-        last = 2 << 12 | 6 << 15 | (10 << 7 | 0x03 if load else 10 << 20 | 0x23)
-        return load_word(6, self.address()) + [last]
-
-    def system(self):
-        """A system call, mostly of input or output."""
-        return load_word(17, self.draw.choice([1, 2, 2, 3, 4, 5])) + [ECALL]
-
-    def branch(self):
-        """A branch or a jump a few instructions away."""
-        offset = 4 * self.draw.randrange(-4, 6)
-        if self.draw.random() < 0.5:
-            imm = offset & 0x1fff
-            return [(imm >> 12) << 31 | (imm >> 5 & 0x3f) << 25 | 11 << 20 | 10 << 15 | self.draw.choice([0, 1]) << 12
-                    | (imm >> 1 & 0xf) << 8 | (imm >> 11 & 1) << 7 | 0x63]
-        imm = offset & 0x1fffff
-        return [(imm >> 20) << 31 | (imm >> 1 & 0x3ff) << 21 | (imm >> 11 & 1) << 20 | (imm >> 12 & 0xff) << 12 | 0x6f]
-
-    def piece(self):
-        """A few instructions."""
-        small = self.draw.choice([0, 1, 2, 3, 5, 7, 100, -1, 0x7fffffff, 0x80000000])
-        kinds = [self.call, self.memory, self.system, self.branch, lambda: [RETURN],
-                 lambda: load_word(10 + self.draw.randrange(8), small), lambda: [EBREAK],
-                 lambda: [self.draw.getrandbits(32)]]
-        return self.draw.choices(kinds, [6, 5, 4, 3, 4, 8, 0.3, 0.5])[0]()
-
-    def words(self, count):
-        """Code with one word at least for each of `count` places."""
-        words = []
-        while len(words) < count or self.draw.random() < 0.9 and len(words) < 200:
-            words += self.piece()
-        return struct.pack("<%dI" % len(words), *(word & 0xffffffff for word in words))
-
-
 class Case:
     """A text and an image of which some compartments are given, with what the program says of them."""
 
@@ -160,9 +96,11 @@ class Case:
         numbers = numbers or [self.draw.randrange(len(image.comps))]
         for number in numbers:
             comp = image.comps[number]
-            start = CODE_START + number * STRETCH
+            start = code_start(number)
             last = max(comp["entries"], default=start)
-            comp["code"] = Code(self.draw, image, number).words((last - start) // 4 + 1)
+            imported = [image.comps[other]["entries"][index] for other, index in comp["imports"]]
+            code = Code(self.draw, number, [each["entries"] for each in image.comps], imported)
+            comp["code"] = written(code.words((last - start) // 4 + 1))
             if self.draw.random() < 0.2:
                 comp["globals"] += bytes(4)
             if number == image.main:

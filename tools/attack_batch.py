@@ -6,40 +6,10 @@ in the folder, so that it runs on another machine too. Nothing of this is proved
 """
 import json
 import os
-import subprocess
 import sys
 
-from attack_text import Bad, Interface, written
-
-BOUNDS = {"meaning": ["--turns=20000", "--events=4096"], "run": ["--steps=400000", "--events=1024"],
-          "judge": ["--steps=400000", "--events=1024"]}
-
-
-class Plan:
-    """What all runs of an attack share."""
-
-    def __init__(self, data):
-        self.data, self.faces = data, {}
-        for name, parts in data["faces"].items():
-            self.faces[name] = face = Interface()
-            face.exports, face.imports, face.main = parts
-
-    def text(self, behaviour, is_marked=False):
-        return written(self.data["marked" if is_marked else "plain"], self.faces, behaviour)
-
-    def report(self, command, behaviour, is_marked=False, bounds=None):
-        """The lines that a command writes for a behaviour."""
-        values = self.data["inputs"][behaviour["input"]]
-        words = [self.data["program"], command, *(BOUNDS[command] if bounds is None else bounds)]
-        words += [f"--in={values}"] if values else []
-        text = self.text(behaviour, is_marked)
-        if command == "judge":
-            text = self.data["policy"] + text
-        ran = subprocess.run(words, input=text.encode("latin-1"), capture_output=True, check=False)
-        if ran.returncode:
-            said = ran.stderr.decode(errors="replace").strip().split("\n")[0]
-            raise Bad(f"status {ran.returncode} of `{command}` for a text made here: {said}")
-        return ran.stdout.decode().splitlines()
+from attack_image import plan_of
+from attack_text import Bad, events, replayed
 
 
 def size_class(value):
@@ -71,6 +41,13 @@ def features(lines, marks):
     return found
 
 
+def replay(lines, plan, number):
+    """What the attacked sections did in a trace with marks, as a behaviour."""
+    marks = plan.data["marks"]
+    trace = [words for words in events(lines) if words[2:4] != marks and words[:2] != ["ret", marks[0]]]
+    return replayed(trace, plan.data["attacked"], plan.data["main"], number)
+
+
 def unmarked(stop, plan):
     """How the meaning stops, with the line that the text without marks has."""
     words = stop.split()
@@ -82,6 +59,8 @@ def unmarked(stop, plan):
 def shown(plan, behaviour):
     lines = plan.report("meaning", behaviour, is_marked=True)
     answer = {"stop": unmarked(lines[-1], plan), "features": features(lines, plan.data["marks"])}
+    if behaviour.get("code", [""])[0] == "random":
+        answer["replay"] = replay(lines, plan, behaviour["input"])
     if plan.data["policy"]:
         judged = plan.report("judge", behaviour)
         answer["machine"] = next(line for line in judged if line.startswith("stop "))
@@ -93,7 +72,7 @@ def shown(plan, behaviour):
 
 def main(batch):
     with open("plan.json", encoding="utf-8") as it:
-        plan = Plan(json.load(it))
+        plan = plan_of(json.load(it))
     with open(batch, encoding="utf-8") as it:
         behaviours = json.load(it)
     with open(f"{batch}.new", "w", encoding="utf-8") as it:

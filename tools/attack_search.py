@@ -77,8 +77,9 @@ class Values:
 class Search:
     """The behaviours that are kept, and the next ones."""
 
-    def __init__(self, faces, values, recorded, seed):
+    def __init__(self, faces, values, recorded, seed, has_code=False):
         self.faces, self.values, self.recorded, self.seed = faces, values, recorded, seed
+        self.has_code = has_code
         self.pool, self.reached, self.round = [], set(), 0
         self.waiting = list(self.first_ones())
 
@@ -173,6 +174,8 @@ class Search:
             self.change(child["parts"][name], self.faces[name], chance)
         if len(self.recorded) > 1 and chance.random() < 0.1:
             child["input"] = chance.choice(self.recorded)["input"]
+        if self.has_code and (kind := chance.random()) < 0.3:
+            child["code"] = ["random" if kind < 0.1 else "noise", chance.getrandbits(32)]
         return child
 
     def drawn_call(self, face, chance):

@@ -1,13 +1,14 @@
 #!/usr/bin/env python3
 """Tests tools/attack and tools/secret: `attack_sessions.py [--runs N] [--secomp PATH] [WORD]`, at the top.
 
-Each program of examples/attacked has a weakness, which must be found, and a mended twin, in which nothing must be found
-in N runs (200; 2,000 take some minutes). Then bad words and bad inputs get their answers, the same attack finds the
+Each program of examples/attacked has a weakness, which must be found, and a mended twin, in which nothing must be found:
+in N runs by texts (2,000), and in a tenth of N by machine code, with --image. Then bad words and bad inputs get their answers, the same attack finds the
 same with and without GNU parallel and when it is started again, and the sessions of docs/ATTACK.md write what they
 show. With WORD, one of attacked, bad_uses, changes, agreement and sessions, only that test is run. What needs GNU
 parallel says that it didn't run where that isn't there. The last line counts; the status is 1 if one failed.
 """
 import argparse
+import itertools
 import os
 import re
 import shutil
@@ -44,6 +45,9 @@ BAD = [
     (f"attack {STORE} Main Main", "a section is named twice"),
     (f"attack {STORE} Main Net", "all compartments are attacked"),
     ("attack unused.c Idle", "Idle exports nothing"),
+    ("attack large.c Part --image", "large.c: a section has no object, which --image takes: secomp: too large"),
+    ("attack large.c Part", "secomp: too large"),
+    (f"attack {STORE} Nobody --image", "no compartment Nobody"),
     (f"attack {STORE} Main --runs 0", "at least 1"),
     (f"attack {STORE} Main --runs many", "invalid int value"),
     (f"attack {STORE} Main --jobs 0", "at least 1"),
@@ -70,6 +74,8 @@ BAD = [
     ("secret examples/queue.c Queue.first --values 1", "no global first that is an integer"),
 ]
 UNUSED = "#pragma compartment Main\nint main(void) { return 0; }\n#pragma compartment Idle\nint idle;\n"
+LARGE = "#pragma compartment Main\n#pragma import Part part\nint part(void);\nint main(void) {\n  int a[9000];\n" \
+        "  a[0] = part();\n  return 0;\n}\n#pragma compartment Part\n#pragma export part\nint part(void) { return 1; }\n"
 # A global's declaration, which is changed, the value, and the declaration with it.
 CHANGES = [
     ("int a;", "a", "5", "int a = 5;"),
@@ -90,19 +96,22 @@ def run(words, folder):
 
 def attacked(asked, folder):
     """Each weakness is found at its line, and nothing in the mended twin."""
-    for name, section, wanted in WEAK:
+    for (name, section, wanted), way in itertools.product(WEAK, ([], ["--image"])):
         for twin, status in ((name, 1), (f"{name}_mended", 0)):
-            words = ["tools/attack", f"examples/attacked/{twin}.c", section, f"--runs={asked.runs}", "--first"]
+            words = ["tools/attack", f"examples/attacked/{twin}.c", section, *way, "--first",
+                     f"--runs={max(asked.runs // 10, 1) if way else asked.runs}"]
             out, err, got = run([*words, "--jobs=1", f"--results={folder}/{twin}"], folder)
             faults = [line for line in out.splitlines() if line.startswith(("fault", "trap", "violation"))]
-            good = got == status and not err and (faults[0].startswith(wanted) if status else not faults)
+            good = got == status and not err and faults[:1] == [it for it in faults[:1] if it.startswith(wanted)]
+            good = good and bool(faults) == bool(status)
             yield f"{twin}: attacked", "" if good else f"{' '.join(words)}\nstatus {got}\n{out}{err}"
 
 
 def bad_uses(asked, folder):
     """Bad words and bad inputs are refused in a line, with status 2."""
-    with open(f"{folder}/unused.c", "w", encoding="utf-8") as it:
-        it.write(UNUSED)
+    for name, text in (("unused.c", UNUSED), ("large.c", LARGE)):
+        with open(f"{folder}/{name}", "w", encoding="utf-8") as it:
+            it.write(text)
     for line, wanted in BAD:
         out, err, status = run([f"tools/{line.split()[0]}", *line.split()[1:]], folder)
         good = status == 2 and wanted in err and not out and "Traceback" not in err
@@ -131,15 +140,16 @@ def changes(_, folder):
 
 def agreement(asked, folder):
     """The same attack shows the same side by side, one after another, and when it is started again."""
-    words = ["tools/attack", "examples/messages.c", "Parser", "--policy", KEY, "--runs=120", "--seed=7"]
-    alone = run([*words, "--jobs=1", f"--results={folder}/same"], folder)
-    yield "again", "" if run([*words, "--jobs=1", f"--results={folder}/same"], folder) == alone else "again: differs"
-    if not shutil.which("parallel"):
-        print("side by side: wasn't tried: this takes GNU parallel (in Debian the package `parallel`)")
-        return
-    shutil.rmtree(f"{folder}/same")
-    aside = run([*words, "--jobs=2", f"--results={folder}/same"], folder)
-    yield "side by side", "" if aside == alone else f"side by side: {aside}\nin place of\n{alone}"
+    for way in ([], ["--image"]):
+        words = ["tools/attack", "examples/messages.c", "Parser", *way, "--policy", KEY, "--runs=120", "--seed=7"]
+        alone = run([*words, "--jobs=1", f"--results={folder}/same"], folder)
+        yield "again", "" if run([*words, "--jobs=1", f"--results={folder}/same"], folder) == alone else "again: differs"
+        if not shutil.which("parallel"):
+            print("side by side: wasn't tried: this takes GNU parallel (in Debian the package `parallel`)")
+            return
+        shutil.rmtree(f"{folder}/same")
+        aside = run([*words, "--jobs=2", f"--results={folder}/same"], folder)
+        yield "side by side", "" if aside == alone else f"side by side: {aside}\nin place of\n{alone}"
 
 
 def sessions(asked, folder):
@@ -164,7 +174,7 @@ def answers(asked, folder):
 def main():
     parser = argparse.ArgumentParser(description=__doc__, formatter_class=argparse.RawDescriptionHelpFormatter)
     parser.add_argument("word", nargs="?", default="")
-    parser.add_argument("--runs", type=int, default=200)
+    parser.add_argument("--runs", type=int, default=2000)
     parser.add_argument("--secomp")
     asked = parser.parse_args()
     path = os.path.abspath(asked.secomp) if asked.secomp else program()

@@ -3,8 +3,10 @@
 `foreign_libraries.py [--secomp PROGRAM] [--libraries FOLDER] [--only PROGRAM]`, at the top of the repository.
 
 Each program gets its library's own test vectors, or what the library on this host makes, then a message that triggers
-a fault which was put back into the library: the machine stops there, and the library without the fault answers. Without
-the cross compiler or the libraries it says that it didn't run. The last line counts; the status is 1 if one failed.
+a fault which was put back into the library: the machine stops there, and the library without the fault answers. Of each
+run `judge --image` accounts: the library's compartment alone is given, nobody is replaced, and the program's policy
+holds. Without the cross compiler or the libraries it says that it didn't run. The last line counts; the status is 1 if
+one failed.
 """
 import argparse
 import ctypes
@@ -22,13 +24,16 @@ from sections import TOP, count, program, read
 
 MOST_EVENTS = 4096
 INFLATE = [f"{name}.c" for name in ("adler32", "crc32", "inffast", "inflate", "inftrees", "zutil")]
-# Of each program: its section, our file, the library's folder, its files, and those of headers.
+# Of each program: its section, our file, the library's folder, its files, those of headers, and macros.
 PROGRAMS = {
-    "key": ("Json", "json.c", "jsmn", [], "."),
-    "log": ("Zip", "zip.c", "zlib", INFLATE, "."),
-    "account": ("Json", "orders.c", "cjson", ["cJSON.c"], "."),
-    "blocks": ("Block", "block.c", "lz4", ["lib/lz4.c"], "lib"),
+    "key": ("Json", "json.c", "jsmn", [], ".", []),
+    "log": ("Zip", "zip.c", "zlib", INFLATE, ".", []),
+    "account": ("Json", "orders.c", "cjson", ["cJSON.c"], ".", ["CJSON_NESTING_LIMIT=200"]),
+    "blocks": ("Block", "block.c", "lz4", ["lib/lz4.c"], "lib", []),
 }
+# The state in which each program's policy ends, and that in which it stands where the faulty library is stopped.
+STATES = {"key": ("kept", "kept"), "log": ("noted", "unpacking"), "account": ("paying", "paying"),
+          "blocks": ("asked", "none")}
 LITERAL = r'"(?:[^"\\]|\\.)*"'
 PARSE = re.compile(rf"parse\(((?:{LITERAL}\s*)+),\s*(\w+),\s*(\d+)((?:[^()\"]|{LITERAL})*)\)\)")
 JSMN = {"JSMN_ERROR_NOMEM": -1, "JSMN_ERROR_INVAL": -2, "JSMN_ERROR_PART": -3, "JSMN_OBJECT": 1, "JSMN_ARRAY": 2,
@@ -100,6 +105,7 @@ EXTRA = b"\x1f\x8b\x08\x04\0\0\0\0\0\x03" + (200).to_bytes(2, "little") + b"x" *
 FAULTS = {
     "key": ([*b"]".ljust(220), *TOKEN], [-2]),
     "log": (counted(EXTRA), [*words(b"hey!"), 4]),
+    "account": ([0, *counted(b"[" * 3000)], [-1]),
     "blocks": ([-1, *counted(b"\xf0\x20" + b"x" * 40)], [0]),
 }
 
@@ -112,23 +118,38 @@ class Runs:
 
     def build(self, fault=""):
         """Why the image couldn't be built."""
-        section, ours, library, files, headers = PROGRAMS[self.name]
+        section, ours, library, files, headers, macros = PROGRAMS[self.name]
         folder, here = f"{self.libraries}/{library}{fault}", f"{TOP}/examples/foreign"
         given = ",".join([f"{here}/{ours}", *(f"{folder}/{it}" for it in files)])
         command = [f"{TOP}/tools/foreign", "build", f"{here}/{self.name}.c", f"{section}={given}", "-I",
-                   f"{folder}/{headers}", "-o", self.image(fault)]
+                   f"{folder}/{headers}", "-o", self.image(fault), *(f"-D{it}" for it in macros)]
         ran = subprocess.run(command, capture_output=True, text=True, check=False)
         return ran.stderr if ran.returncode else ""
 
     def image(self, fault=""):
         return f"{self.made}/{self.name}{fault}"
 
+    def lines(self, command, numbers, given):
+        """What a command writes for these bytes and inputs."""
+        words = ["--steps=16777216", f"--events={MOST_EVENTS}", "--in=" + ",".join(map(str, numbers))]
+        return subprocess.run([self.secomp, *command, *words], input=given, capture_output=True,
+                              check=False).stdout.decode().splitlines()
+
     def run(self, numbers, fault=""):
         """What a run outputs, and how it stops."""
-        given = ["--steps=16777216", f"--events={MOST_EVENTS}", "--in=" + ",".join(map(str, numbers))]
-        lines = subprocess.run([self.secomp, "exec", *given], input=read(self.image(fault)), capture_output=True,
-                               check=False).stdout.decode().splitlines()
+        lines = self.lines(["exec"], numbers, read(self.image(fault)))
         return [int(line.split()[2]) for line in lines if line.startswith("out ")], lines[-1] if lines else "nothing"
+
+    def account(self, numbers, fault=""):
+        """How the account of a run isn't as it must be: given is the library's compartment, nobody is replaced, and the
+        policy holds."""
+        here = f"{TOP}/examples/foreign/{self.name}"
+        lines = self.lines(["judge", "--image"], numbers,
+                           read(f"{here}.policy") + read(self.image(fault)) + read(f"{here}.c"))
+        ran = self.lines(["exec"], numbers, read(self.image(fault)))
+        section, state = PROGRAMS[self.name][0], STATES[self.name][bool(fault)]
+        wanted = [f"given {section}", "chain 0", f"verdict holds {state}"]
+        return "" if lines == ran + wanted else f"judge --image gives {lines[len(ran):]}, not {wanted}"
 
 
 def tests(runs):
@@ -136,20 +157,26 @@ def tests(runs):
     if said := runs.build():
         yield f"{runs.name}: {said}"
         return
-    _, _, library, _, _ = PROGRAMS[runs.name]
-    for what, numbers, wanted in VECTORS[runs.name](f"{runs.libraries}/{library}"):
+    for what, numbers, wanted in VECTORS[runs.name](f"{runs.libraries}/{PROGRAMS[runs.name][2]}"):
         if len(numbers) + 3 * len(wanted) + 20 > MOST_EVENTS:
             print(f"{runs.name}, {what} wasn't tried: its run takes more than {MOST_EVENTS} events")
             continue
-        came = runs.run(numbers)
-        yield "" if came == (wanted, "stop ended") else f"{runs.name}, {what}: gives {came}, not {wanted}"
-    if runs.name in FAULTS:
-        numbers, wanted = FAULTS[runs.name]
-        came = runs.run(numbers)
-        yield "" if came == (wanted, "stop ended") else f"{runs.name}, the message: gives {came}, not {wanted}"
-        said = runs.build("-fault")
-        _, stop = runs.run(numbers, "-fault") if not said else ([], said)
-        yield "" if stop.startswith("stop trap owner") else f"{runs.name} with its fault: {stop}"
+        yield answer(runs, what, numbers, (wanted, "stop ended"))
+    numbers, wanted = FAULTS[runs.name]
+    yield answer(runs, "the message", numbers, (wanted, "stop ended"))
+    if said := runs.build("-fault"):
+        yield f"{runs.name} with its fault: {said}"
+        return
+    _, stop = runs.run(numbers, "-fault")
+    said = runs.account(numbers, "-fault") if stop.startswith("stop trap owner") else stop
+    yield said and f"{runs.name} with its fault: {said}"
+
+
+def answer(runs, what, numbers, wanted):
+    """What is wrong with a run, or with its account."""
+    came = runs.run(numbers)
+    said = f"gives {came}, not {wanted}" if came != wanted else runs.account(numbers)
+    return said and f"{runs.name}, {what}: {said}"
 
 
 def main():
@@ -164,7 +191,7 @@ def main():
     except Refused as refused:
         print(f"examples/foreign wasn't run: {refused}")
         return 0
-    if not os.path.isdir(f"{given.libraries}/lz4-fault"):
+    if not os.path.isdir(f"{given.libraries}/cjson-fault"):
         print(f"examples/foreign wasn't run: {given.libraries} has no libraries; examples/foreign/fetch fetches them")
         return 0
     os.environ["SECOMP"] = os.path.abspath(given.secomp) if given.secomp else program()

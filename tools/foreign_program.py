@@ -2,10 +2,10 @@
 import os
 import subprocess
 
+import machine_code
 from command import Refused
 from sections import TOP
 
-CODE_START, DATA_START, STRETCH, STACK = 0x01000000, 0x10000000, 0x100000, 0x10000
 MOST_CODE, MOST_GLOBALS = 1048576, 458752
 NUMBERS = {"int": "int", "unsigned": "unsigned int", "void": "void"}
 
@@ -30,10 +30,10 @@ class Face:
         self.exports, self.imports, self.environment = [], [], []
 
     def code_start(self):
-        return CODE_START + self.number * STRETCH
+        return machine_code.code_start(self.number)
 
     def globals_start(self):
-        return DATA_START + self.number * STRETCH + STACK
+        return machine_code.globals_start(self.number)
 
 
 class Program:
@@ -101,21 +101,3 @@ def faces(path, listing):
     if not found:
         raise Refused(f"{path} has no sections")
     return found, main
-
-
-def head_length(data):
-    """How many bytes of an object come before its heap bit: the head, and what each compartment shows."""
-    at = 9
-    for _ in range(data[6]):
-        at += 2 + data[at]
-        count, at = int.from_bytes(data[at:at + 2], "little"), at + 2
-        for _ in range(count):
-            at += 3 + data[at]
-        at += 2 + 3 * int.from_bytes(data[at:at + 2], "little")
-    return at
-
-
-def object_of(own, heap, code, main_offset, data):
-    """An object with the head of `own` and these parts."""
-    words = (len(code).to_bytes(4, "little"), code, main_offset.to_bytes(4, "little"), len(data).to_bytes(4, "little"))
-    return own[:head_length(own)] + bytes([heap]) + b"".join(words) + data

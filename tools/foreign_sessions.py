@@ -100,6 +100,14 @@ def without_compiler():
     return "" if status == 2 and "clang is missing: apt-get install clang" in said else f"status {status}: {said}"
 
 
+def without_library():
+    """Where picolibc is missing, its package is named."""
+    code = "import sys; sys.path.insert(0, 'tools')\nimport foreign_compile\nforeign_compile.LIBRARY = '/lost'\n" \
+           "try:\n  foreign_compile.demand('gcc')\nexcept foreign_compile.Refused as refused: print(refused)"
+    said = subprocess.run([sys.executable, "-c", code], cwd=TOP, capture_output=True, text=True, check=False).stdout
+    return "" if said == "picolibc is missing: apt-get install picolibc-riscv64-unknown-elf\n" else said
+
+
 def full_output():
     """Outputs that take nothing get a sentence, too."""
     with Folder({"program.c": PROGRAM}) as path:
@@ -180,6 +188,7 @@ def tests():
     yield "the session of the tutorial", tutorial
     yield "the attempts", attempts
     yield "without the compiler", without_compiler
+    yield "without picolibc", without_library
     yield "an output that is full or closed", full_output
     yield "image with a map", image_of
     yield "main is foreign", main_of
