@@ -4,7 +4,7 @@ import re
 from pycparser import c_ast
 
 from .common import MOST_PARAMETERS, Refused
-from .ctypes import (CHAR, INT, UNSIGNED, Function, Pointer, Void, base_of, is_function_pointer, known, promoted,
+from .ctypes import (CHAR, INT, LONG, UNSIGNED, Function, Pointer, Void, base_of, is_function_pointer, known, promoted,
                      size_of, target_of)
 from .values import ATOM, PRODUCT, Place, Value, number
 from .wide import pair
@@ -153,6 +153,22 @@ class Calls:
         return self.finished(target, kind.result, [pointer.text, *texts], coord, wanted)
 
     # The library
+
+    def call_port_expect(self, node, arguments, wanted):
+        """gcc evaluates what is expected, too."""
+        return self.convert(self.first_of(node, arguments), LONG, node.coord)
+
+    def call_port_assume_aligned(self, node, arguments, wanted):
+        return self.first_of(node, arguments)
+
+    def call_port_prefetch(self, node, arguments, wanted):
+        self.first_of(node, arguments)
+        return Value("0", ATOM, self.unit.void)
+
+    def first_of(self, node, arguments):
+        if not arguments:
+            raise Refused(node.coord, f"{node.name.name.replace('port', '__builtin')} without arguments")
+        return self.ordered(*arguments)[0]
 
     def call_abort(self, node, arguments, wanted):
         self.emit(f"{self.unit.helper_abort()}();")

@@ -175,6 +175,14 @@ def base_of(kind):
     return kind, count
 
 
+def cells_of(kind):
+    """How many cells an object of this type takes."""
+    kind, count = base_of(kind)
+    if kind.is_struct:
+        return count * sum(cells_of(it.type) for it in kind.kept()) if kind.members is not None else count
+    return 2 * count if kind.is_wide else count
+
+
 def target_of(kind):
     """How the target language spells the type of one element that is kept in memory."""
     kind, _ = base_of(kind)

@@ -57,7 +57,7 @@ class Expressions(Arithmetic, Wide):
         entity = self.find(node.name, node.coord)
         kind = entity.kind
         if kind == "constant":
-            return number(entity.value, INT)
+            return number(entity.value, entity.type)
         if kind == "function":
             return Place(entity.name, ATOM, entity.type)
         if kind != "variable":
@@ -97,6 +97,7 @@ class Expressions(Arithmetic, Wide):
             return Place(moved.text, moved.level, inner)
         if index.low:
             index = index.low
+        base = self.save(base) if base.const == 0 else base
         if base.reaches is not None and index.const == 0:
             return base.reaches
         return Place(f"{base.at(POSTFIX)}[{index.text}]", POSTFIX, inner)
@@ -106,6 +107,7 @@ class Expressions(Arithmetic, Wide):
             base = self.word(node.name)
             kind = known(base.type)
             struct = known(kind.to) if kind.is_pointer else kind
+            base = self.save(base) if base.const == 0 else base
             text = f"{base.at(POSTFIX)}->"
             if base.reaches is not None:
                 text = f"{base.reaches.at(POSTFIX)}."
@@ -138,6 +140,7 @@ class Expressions(Arithmetic, Wide):
             return Place(value.text, value.level, inner)
         if value.reaches is not None:
             return value.reaches
+        value = self.save(value) if value.const == 0 else value
         return Place(f"*{value.at(PREFIX)}", PREFIX, inner)
 
     def address(self, node):

@@ -31,24 +31,28 @@ DEFINED = {
     "__builtin_strncpy": "strncpy", "__builtin_strcat": "strcat", "__builtin_strchr": "strchr",
     "__builtin_strrchr": "strrchr", "__builtin_malloc": "malloc", "__builtin_free": "free",
     "__builtin_calloc": "calloc", "__builtin_abs": "abs", "__builtin_labs": "labs",
-    "__builtin_offsetof(t,m)": "offsetof(t,m)", "__builtin_expect(e,c)": "(e)",
+    "__builtin_offsetof(t,m)": "offsetof(t,m)", "__builtin_expect": "port_expect",
     "__builtin_ffs": "ffs", "__builtin_ffsl": "ffs", "__builtin_clz": "port_clz", "__builtin_ctz": "port_ctz",
     "__builtin_clzl": "port_clz", "__builtin_ctzl": "port_ctz", "__builtin_popcount": "port_popcount",
     "__builtin_popcountl": "port_popcount", "__builtin_parity": "port_parity", "__builtin_parityl": "port_parity",
     "__builtin_bswap32": "port_bswap32", "__builtin_bswap16": "port_bswap16", "__builtin_strstr": "strstr",
     "__builtin_isdigit": "isdigit", "__builtin_toupper": "toupper", "__builtin_tolower": "tolower",
     "__builtin_memchr": "memchr", "__builtin_strncat": "strncat", "__builtin_strspn": "strspn",
-    "__builtin_strcspn": "strcspn", "__builtin_strpbrk": "strpbrk", "__builtin_prefetch(...)": "((void)0)",
+    "__builtin_strcspn": "strcspn", "__builtin_strpbrk": "strpbrk", "__builtin_prefetch": "port_prefetch",
     "__builtin_putchar": "putchar", "__builtin_puts": "puts", "__builtin_llabs": "llabs",
     "__builtin_clzll": "port_clzll", "__builtin_ctzll": "port_ctzll", "__builtin_popcountll": "port_popcountll",
     "__builtin_bswap64": "port_bswap64", "__builtin_ffsll": "port_ffsll", "__builtin_parityll": "port_parityll",
-    "__builtin_trap": "abort", "__builtin_unreachable": "abort", "__builtin_assume_aligned(p,...)": "(p)",
+    "__builtin_trap": "abort", "__builtin_unreachable": "abort", "__builtin_assume_aligned": "port_assume_aligned",
 }
 HARMLESS = set("""noinline noclone unused used const pure noreturn always_inline noipa cold hot nothrow leaf malloc
-returns_nonnull nonnull warn_unused_result deprecated no_instrument_function optimize gnu_inline artificial flatten
+returns_nonnull nonnull warn_unused_result deprecated optimize gnu_inline artificial flatten
 format no_reorder noplt externally_visible no_icf stack_protect no_sanitize_undefined may_alias_none fallthrough
 alloc_size access visibility""".split())
+PRAGMAS = re.compile(r"#\s*pragma\s*($|(once|message|mark|region|endregion|omp|clang|STDC FP_CONTRACT|"
+                     r"GCC (diagnostic|ivdep|unroll|optimize|poison|system_header|push_options|pop_options|visibility|"
+                     r"warning|error|target))\b)")
 MARKER = re.compile(r'#\s*(?:line\s+)?(\d+)\s+"((?:[^"\\]|\\.)*)"')
+EFFECT = re.compile(r"\+\+|--|[\w)\]]\s*\(|=")
 WORD = re.compile(r'"(?:[^"\\\n]|\\.)*"|\'(?:[^\'\\\n]|\\.)*\'|[A-Za-z_]\w*|[()]|\n|[^\w"\'()\n]+|\d\w*|.', re.S)
 
 
@@ -83,7 +87,8 @@ def attribute_names(text):
 
 
 def empty_assembler(words, at):
-    """How many words an asm statement takes that does nothing: its text is empty, and each output is its own input."""
+    """How many words an asm statement takes that does nothing: its text is empty, each output is its own input, and no
+    operand has an effect."""
     taken, depth = [], 0
     while at < len(words) and len(taken) < 400:
         taken.append(words[at])
@@ -93,7 +98,7 @@ def empty_assembler(words, at):
             break
     text = re.sub(r"\b(volatile|__volatile__|__volatile)\b", "", "".join(taken))
     parts = re.fullmatch(r'\s*\(\s*((?:""\s*)+)(:(?P<out>[^:]*)(:.*)?)?\)', text, re.S)
-    if not parts or "++" in text or "--" in text:
+    if not parts or EFFECT.search(re.sub(r'"[^"]*"\s*\(', "(", text)):
         return 0
     outputs = re.findall(r'"([^"]*)"', parts.group("out") or "")
     return len(taken) if all(it.startswith("+") for it in outputs) else 0
@@ -160,6 +165,8 @@ def without_attributes(text, path):
             marker = MARKER.match(rest.lstrip())
             if marker:
                 place = Place(marker.group(2), int(marker.group(1)) - 1)
+            elif not PRAGMAS.match(rest.strip()):
+                raise Refused(place, rest.strip())
         else:
             context.see(word)
         kept.append(word)
@@ -169,8 +176,7 @@ def without_attributes(text, path):
 def tree_of(path, folders, defines):
     """pycparser's tree of a file. What it can't parse is refused at its line."""
     text = without_attributes(preprocessed(path, folders, defines), path)
-    text = "\n".join("" if line.lstrip().startswith("#pragma") and "compartment" not in line else line
-                     for line in text.split("\n"))
+    text = "\n".join("" if line.lstrip().startswith("#pragma") else line for line in text.split("\n"))
     try:
         return c_parser.CParser().parse(text, path)
     except ParseError as error:

@@ -29,7 +29,7 @@ IN_LIBRARY = {
 FILE_OF = {name: file for file, names in IN_LIBRARY.items() for name in names.split()}
 OF_THE_COMPILER = {"abs", "labs", "llabs", "ffs"}
 BUILTINS = {"abort", "exit", "malloc", "calloc", "free", "memcpy", "memmove", "memset", "memcmp", "memchr",
-            "qsort"}
+            "qsort", "port_expect", "port_prefetch", "port_assume_aligned"}
 
 
 class Unit(Helpers, Layout, Variables, Sections):
@@ -357,6 +357,7 @@ class Unit(Helpers, Layout, Variables, Sections):
         base = base_of(kind)[0]
         if base.is_struct:
             self.wants_complete(base, coord)
+        self.fits(kind, entity.coord)
         if entity.target is None:
             entity.target = self.names.take(entity.name)
         self.used[id(entity)] = entity
