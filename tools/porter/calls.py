@@ -158,6 +158,25 @@ class Calls:
         """gcc evaluates what is expected, too."""
         return self.convert(self.first_of(node, arguments), LONG, node.coord)
 
+    def call_offsetof(self, node, arguments, wanted):
+        return number(self.offset_in(known(self.type_of(arguments[0])), arguments[1])[0], UNSIGNED)
+
+    def offset_in(self, kind, node):
+        """Where a member or an element begins, in bytes, and its type."""
+        if isinstance(node, c_ast.ArrayRef):
+            before, array = self.offset_in(kind, node.name)
+            index = self.constant_value(node.subscript)
+            if index is None or not array.is_array:
+                raise Refused(node.coord, "offsetof of an element that isn't constant")
+            return before + index * size_of(array.of, node.coord), known(array.of)
+        is_inner = isinstance(node, c_ast.StructRef)
+        before, struct = self.offset_in(kind, node.name) if is_inner else (0, kind)
+        member = struct.member((node.field if is_inner else node).name) if struct.is_struct else None
+        if member is None or member.width is not None:
+            raise Refused(node.coord, f"offsetof in {struct!r}")
+        size_of(struct, node.coord)
+        return before + member.offset, known(member.type)
+
     def call_port_assume_aligned(self, node, arguments, wanted):
         return self.first_of(node, arguments)
 

@@ -183,6 +183,9 @@ class Declarations:
         for at, it in enumerate(node.decls):
             if not isinstance(it, c_ast.Decl):
                 continue
+            if it.name == "port_packed":
+                struct.is_packed = True
+                continue
             kind = known(self.type_of(it, (struct.defined_at, at, it.name)))
             width = None
             if it.bitsize is not None:

@@ -125,7 +125,11 @@ class Expressions(Arithmetic, Wide):
         if member is None:
             raise Refused(node.coord, f"{struct!r} has no known member {node.field.name}")
         target = self.unit.sees(struct, member, node.coord) if struct.is_union else member.target
-        return Place(text + target, POSTFIX, member.type, "s", member.width)
+        made = Place(text + target, POSTFIX, member.type, "s", member.width)
+        size_of(struct, node.coord)
+        if member.offset == 0 and member.width is None:
+            made.base = base if node.type == "->" else getattr(base, "base", None)
+        return made
 
     def dereferenced(self, value, coord):
         kind = known(value.type)
@@ -160,10 +164,10 @@ class Expressions(Arithmetic, Wide):
             return self.function_number(found, node.coord)
         if kind.is_array:
             made = Value(found.text, found.level, self.pointer_to(kind), "p")
-            made.array = kind
+            made.array, made.base = kind, found.base
             return made
         made = Value(f"&{found.at(PREFIX)}", PREFIX, self.pointer_to(kind), "p")
-        made.reaches, made.is_fixed = found, found.text.isidentifier()
+        made.reaches, made.is_fixed, made.base = found, found.text.isidentifier(), found.base
         return made
 
     def pointer_to(self, kind):

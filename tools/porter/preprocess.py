@@ -48,6 +48,7 @@ HARMLESS = set("""noinline noclone unused used const pure noreturn always_inline
 returns_nonnull nonnull warn_unused_result deprecated optimize gnu_inline artificial flatten
 format no_reorder noplt externally_visible no_icf stack_protect no_sanitize_undefined may_alias_none fallthrough
 alloc_size access visibility""".split())
+PACKED = "char port_packed;"
 PRAGMAS = re.compile(r"#\s*pragma\s*($|(once|message|mark|region|endregion|omp|clang|STDC FP_CONTRACT|"
                      r"GCC (diagnostic|ivdep|unroll|optimize|poison|system_header|push_options|pop_options|visibility|"
                      r"warning|error|target))\b)")
@@ -105,10 +106,41 @@ def empty_assembler(words, at):
 
 
 class Context:
-    """Whether a declaration is one of objects, where an alignment changes nothing that a program can see."""
+    """Whether a declaration is one of objects, where an alignment changes nothing that a program can see; and which
+    structures are packed: these get a member of the name PACKED."""
 
     def __init__(self):
-        self.structs, self.words = [], []
+        self.structs, self.words, self.packs, self.is_packed = [], [], [False], False
+
+    def pragma(self, text):
+        """Whether this is a `#pragma pack` that is understood: of one byte, or back to what was."""
+        parts = re.fullmatch(r"#\s*pragma\s+pack\s*\(\s*(?:(push)\s*,\s*)?(1|push|pop|)\s*\)", text)
+        if not parts or parts.group(2) == "pop" and len(self.packs) == 1:
+            return False
+        if "push" in parts.groups():
+            self.packs.append(self.packs[-1])
+        if parts.group(2) == "pop":
+            self.packs.pop()
+        elif parts.group(2) != "push":
+            self.packs[-1] = parts.group(2) == "1"
+        return True
+
+    def packs_here(self, kept):
+        """Takes the attribute `packed` of a structure, before its members or right after them."""
+        if self.words[-1:] == ["}"]:
+            at = next(at for at in range(len(kept) - 1, -1, -1) if "}" in kept[at] and kept[at][0] not in "\"'")
+            before, _, after = kept[at].rpartition("}")
+            kept[at] = f"{before} {PACKED} }}{after}"
+            return True
+        self.is_packed = self.words[-1:] in (["struct"], ["union"])
+        return self.is_packed
+
+    def marked(self, word):
+        """The word, with the mark behind the brace of a packed structure."""
+        is_struct = bool({"struct", "union"} & set(self.words)) and not {"(", "="} & set(self.words)
+        if "{" in word and word[0] not in "\"'" and is_struct and (self.is_packed or self.packs[-1]):
+            word, self.is_packed = word.replace("{", f"{{ {PACKED}", 1), False
+        return word
 
     def see(self, word):
         for mark in word if not word[0].isalnum() and word[0] not in "_\"'" else (word,):
@@ -146,7 +178,8 @@ def without_attributes(text, path):
                 if depth == 0 and words[at - 1] == ")":
                     break
             for name in attribute_names("".join(taken)):
-                if name not in HARMLESS and not (name == "aligned" and context.is_object()):
+                if name not in HARMLESS and not (name == "aligned" and context.is_object()) and \
+                        not (name == "packed" and context.packs_here(kept)):
                     raise Refused(first, f"attribute {name}")
             word = "\n" * taken.count("\n")
             place = Place(place.file, place.line + len(word))
@@ -161,14 +194,17 @@ def without_attributes(text, path):
                       "_Alignof", "_Generic", "_Thread_local", "__thread", "_Atomic"):
             raise Refused(place, word)
         elif word.lstrip().startswith("#") and (not kept or kept[-1].endswith("\n")):
-            rest = "".join(words[at - 1:at + 12]).split("\n")[0]
-            marker = MARKER.match(rest.lstrip())
+            end = next((it for it in range(at, len(words)) if words[it] == "\n"), len(words))
+            word, at = "".join(words[at - 1:end]), end
+            marker = MARKER.match(word.strip())
             if marker:
                 place = Place(marker.group(2), int(marker.group(1)) - 1)
-            elif not PRAGMAS.match(rest.strip()):
-                raise Refused(place, rest.strip())
+            elif not PRAGMAS.match(word.strip()) and not context.pragma(word.strip()):
+                raise Refused(place, word.strip())
         else:
+            marked = context.marked(word)
             context.see(word)
+            word = marked
         kept.append(word)
     return "".join(kept)
 

@@ -29,7 +29,8 @@ IN_LIBRARY = {
 FILE_OF = {name: file for file, names in IN_LIBRARY.items() for name in names.split()}
 OF_THE_COMPILER = {"abs", "labs", "llabs", "ffs"}
 BUILTINS = {"abort", "exit", "malloc", "calloc", "free", "memcpy", "memmove", "memset", "memcmp", "memchr",
-            "qsort", "port_expect", "port_prefetch", "port_assume_aligned"}
+            "qsort", "port_expect", "port_prefetch", "port_assume_aligned",
+            "offsetof"}
 
 
 class Unit(Helpers, Layout, Variables, Sections):
