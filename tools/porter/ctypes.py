@@ -99,7 +99,7 @@ class Struct(Type):
     is_struct = True
 
     def __init__(self, tag):
-        self.tag, self.members, self.defined_at, self.target = tag, None, None, None
+        self.tag, self.members, self.defined_at, self.target, self.coord = tag, None, None, None, None
         self.group, self.is_union, self.is_packed, self.seen = self, False, False, None
 
     def kept(self):

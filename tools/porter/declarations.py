@@ -163,7 +163,7 @@ class Declarations:
                 if node.name:
                     self.scope.tags[node.name] = struct
             if struct.members is None:
-                struct.defined_at = where
+                struct.defined_at, struct.coord = where, node.coord
                 self.define(struct, node)
             elif node.name or True:
                 self.see_again(node)

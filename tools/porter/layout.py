@@ -68,7 +68,8 @@ class Layout:
                     for member in struct.members:
                         for inner, is_kept in mentioned(member.type):
                             if is_kept and inner in parts:
-                                raise Refused(None, f"{struct!r} has {inner!r} as a member, which points back to it")
+                                raise Refused(struct.coord, f"{struct!r} has {inner!r} as a member, which points "
+                                                            "back to it")
                         if member.name:
                             member.target = names.take(member.name)
             for struct in parts:

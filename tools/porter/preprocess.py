@@ -73,7 +73,7 @@ def preprocessed(path, folders, defines):
         parts = re.match(r"([^:]+):(\d+):(?:\d+:)?\s*(?:fatal )?(?:error: )?(.*)", fault)
         if parts:
             raise Refused(Place(parts.group(1), int(parts.group(2))), f"the preprocessor says: {parts.group(3)}")
-        raise Refused(Place(path, 0), f"the preprocessor says: {fault}")
+        raise Refused(Place(path, 1), f"the preprocessor says: {fault}")
     return ran.stdout.decode("latin-1")
 
 
@@ -191,7 +191,8 @@ def without_attributes(text, path):
             at += length
             place = Place(place.file, place.line + len(word))
         elif word in ("__typeof__", "typeof", "__typeof", "__label__", "__alignof__", "__alignof", "_Alignas",
-                      "_Alignof", "_Generic", "_Thread_local", "__thread", "_Atomic"):
+                      "_Alignof", "_Generic", "_Thread_local", "__thread", "_Atomic", "va_arg", "__builtin_va_arg",
+                      "__builtin_choose_expr", "__builtin_types_compatible_p"):
             raise Refused(place, word)
         elif word.lstrip().startswith("#") and (not kept or kept[-1].endswith("\n")):
             end = next((it for it in range(at, len(words)) if words[it] == "\n"), len(words))
@@ -213,12 +214,20 @@ def tree_of(path, folders, defines):
     """pycparser's tree of a file. What it can't parse is refused at its line."""
     text = without_attributes(preprocessed(path, folders, defines), path)
     text = "\n".join("" if line.lstrip().startswith("#pragma") else line for line in text.split("\n"))
+    parser = c_parser.CParser()
     try:
-        return c_parser.CParser().parse(text, path)
+        return parser.parse(text, path)
     except ParseError as error:
         parts = re.match(r"(.*?):(\d+)(?::\d+)?: (.*)", str(error))
         if parts:
             raise Refused(Place(parts.group(1), int(parts.group(2))), f"no C11 that pycparser reads: {parts.group(3)}")
-        raise Refused(Place(path, 0), f"no C11 that pycparser reads: {error}")
+        raise Refused(reached(parser, path), f"no C11 that pycparser reads: {str(error).split(': ')[-1]}")
     except RecursionError:
-        raise Refused(Place(path, 0), "nested too deep for the parser")
+        raise Refused(reached(parser, path), "nested too deep for the parser")
+
+
+def reached(parser, path):
+    """The place up to which the parser has read."""
+    lexer = getattr(parser.clex, "lexer", parser.clex)
+    line = getattr(lexer, "lineno", None) or getattr(lexer, "_lineno", 1)
+    return Place(parser.clex.filename or path, line)

@@ -4,7 +4,7 @@ import os
 from pycparser import c_ast
 
 from .body import Body
-from .common import Names, Refused
+from .common import Names, Refused, placed
 from .ctypes import CHAR, INT, VOID, Array, Function, Struct, Void, base_of, known, target_of, unify
 from .declarations import Entity, Scope
 from .helpers import Helpers
@@ -79,7 +79,8 @@ class Unit(Helpers, Layout, Variables, Sections):
         body = Body(self, scope)
         for node in self.trees[path].ext:
             body.coord = node.coord
-            self.see(node, body, path)
+            with placed(body):
+                self.see(node, body, path)
 
     def see(self, node, body, path):
         if isinstance(node, c_ast.Typedef):
