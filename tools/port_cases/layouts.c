@@ -15,6 +15,8 @@ struct q1 { char c; int x; };
 #pragma pack(1)
 static struct { char c; int x; } v = { 1, 2 };
 struct in { char a; struct q1 b; };
+static int inner(void *at) { return sizeof(struct { char c; int x; }) + sizeof(struct tagged { char c; short x; }); }
+static struct q1 made(c) int c; { struct q1 it = { 1, 2 }; return (struct q1){ c, it.x }; }
 #pragma pack()
 union un { int a; char b[5]; } __attribute__((packed));
 struct q2 { char c; int x; };
@@ -32,5 +34,6 @@ int main(void) {
   output(__builtin_offsetof(struct b, s)); output(__builtin_offsetof(struct b, in[2].x)); output(__builtin_offsetof(struct p1, w.v)); output(__builtin_offsetof(struct p1, w));
   output(first(&m)); output(first(0)); output(flag(&m)); output(flag(0)); output(second(&m)); output(third(&ar)); output(third(0));
   output(a.x + t.q + v.x + t.t);
+  output(inner(0)); output(made(5).c);
   return 0;
 }

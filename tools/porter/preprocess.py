@@ -135,18 +135,21 @@ class Context:
         self.is_packed = self.words[-1:] in (["struct"], ["union"])
         return self.is_packed
 
+    def begins_members(self):
+        """Whether a brace would follow `struct`, or it and a tag."""
+        last = self.words[-2:]
+        return bool(last) and (last[-1] in ("struct", "union") or last[0] in ("struct", "union") and last[1].isidentifier())
+
     def marked(self, word):
         """The word, with the mark behind the brace of a packed structure."""
-        is_struct = bool({"struct", "union"} & set(self.words)) and not {"(", "="} & set(self.words)
-        if "{" in word and word[0] not in "\"'" and is_struct and (self.is_packed or self.packs[-1]):
+        if "{" in word and word[0] not in "\"'" and self.begins_members() and (self.is_packed or self.packs[-1]):
             word, self.is_packed = word.replace("{", f"{{ {PACKED}", 1), False
         return word
 
     def see(self, word):
         for mark in word if not word[0].isalnum() and word[0] not in "_\"'" else (word,):
             if mark == "{":
-                self.structs.append(bool({"struct", "union"} & set(self.words)) and
-                                    not {"(", "="} & set(self.words))
+                self.structs.append(self.begins_members())
                 self.words = []
             elif mark == "}":
                 if self.structs:
