@@ -49,6 +49,9 @@ returns_nonnull nonnull warn_unused_result deprecated optimize gnu_inline artifi
 format no_reorder noplt externally_visible no_icf stack_protect no_sanitize_undefined may_alias_none fallthrough
 alloc_size access visibility""".split())
 PACKED = "char port_packed;"
+UNKNOWN = {"__typeof__", "typeof", "__typeof", "__label__", "__alignof__", "__alignof", "_Alignas", "_Alignof",
+           "_Generic", "_Thread_local", "__thread", "_Atomic", "va_arg", "__builtin_va_arg", "__builtin_choose_expr",
+           "__builtin_types_compatible_p"}
 PRAGMAS = re.compile(r"#\s*pragma\s*($|(once|message|mark|region|endregion|omp|clang|STDC FP_CONTRACT|"
                      r"GCC (diagnostic|ivdep|unroll|optimize|poison|system_header|push_options|pop_options|visibility|"
                      r"warning|error|target))\b)")
@@ -172,30 +175,14 @@ def without_attributes(text, path):
         at += 1
         if word == "\n":
             place = Place(place.file, place.line + 1)
-        elif word in ("__attribute__", "__attribute"):
-            taken, depth, first = [], 0, place
-            while at < len(words):
-                depth += (words[at] == "(") - (words[at] == ")")
-                taken.append(words[at])
-                at += 1
-                if depth == 0 and words[at - 1] == ")":
-                    break
-            for name in attribute_names("".join(taken)):
-                if name not in HARMLESS and not (name == "aligned" and context.is_object()) and \
-                        not (name == "packed" and context.packs_here(kept)):
-                    raise Refused(first, f"attribute {name}")
-            word = "\n" * taken.count("\n")
-            place = Place(place.file, place.line + len(word))
-        elif word in ("asm", "__asm__", "__asm"):
-            length = empty_assembler(words, at)
-            if not length:
+        elif word in ("__attribute__", "__attribute", "asm", "__asm__", "__asm"):
+            end = after_attribute(words, at, place, context, kept) if "attr" in word else \
+                at + empty_assembler(words, at)
+            if end == at:
                 raise Refused(place, "asm")
-            word = "\n" * "".join(words[at:at + length]).count("\n")
-            at += length
+            word, at = "\n" * "".join(words[at:end]).count("\n"), end
             place = Place(place.file, place.line + len(word))
-        elif word in ("__typeof__", "typeof", "__typeof", "__label__", "__alignof__", "__alignof", "_Alignas",
-                      "_Alignof", "_Generic", "_Thread_local", "__thread", "_Atomic", "va_arg", "__builtin_va_arg",
-                      "__builtin_choose_expr", "__builtin_types_compatible_p"):
+        elif word in UNKNOWN:
             raise Refused(place, word)
         elif word.lstrip().startswith("#") and (not kept or kept[-1].endswith("\n")):
             end = next((it for it in range(at, len(words)) if words[it] == "\n"), len(words))
@@ -211,6 +198,21 @@ def without_attributes(text, path):
             word = marked
         kept.append(word)
     return "".join(kept)
+
+
+def after_attribute(words, at, place, context, kept):
+    """Where the words after an attribute begin; one that may change what the program means is refused."""
+    depth, end = 0, at
+    while end < len(words):
+        depth += (words[end] == "(") - (words[end] == ")")
+        end += 1
+        if depth == 0 and words[end - 1] == ")":
+            break
+    for name in attribute_names("".join(words[at:end])):
+        if name not in HARMLESS and not (name == "aligned" and context.is_object()) and \
+                not (name == "packed" and context.packs_here(kept)):
+            raise Refused(place, f"attribute {name}")
+    return end
 
 
 def tree_of(path, folders, defines):
