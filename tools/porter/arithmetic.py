@@ -55,6 +55,8 @@ class Arithmetic:
         if value.low:
             return binary("|", BIT_OR, value.low, value.high)
         if kind.is_pointer and not is_function_pointer(kind):
+            if value.base:
+                return self.truth(value.base)
             if value.array:
                 return number(1, INT)
             return Value(f"{value.at(EQUAL)} != 0", EQUAL, INT, "s", span=(0, 1))
@@ -115,7 +117,7 @@ class Arithmetic:
     def copy_of(self, value):
         made = Value(value.text, value.level, value.type, value.sign, value.const, value.raw, value.bits, value.span)
         made.low, made.high, made.fresh = value.low, value.high, value.fresh
-        made.reaches, made.made, made.is_fixed = value.reaches, value.made, value.is_fixed
+        made.reaches, made.made, made.is_fixed, made.base = value.reaches, value.made, value.is_fixed, value.base
         return made
 
     def convert_integer(self, value, kind):
@@ -173,7 +175,7 @@ class Arithmetic:
         kind = known(place.type)
         if kind.is_array:
             made = Value(place.text, place.level, self.pointer_to(kind.of), "p")
-            made.array, made.is_fixed = kind, place.text.isidentifier()
+            made.array, made.is_fixed, made.base = kind, place.text.isidentifier(), place.base
             return made
         if kind.is_struct:
             return place
@@ -282,6 +284,8 @@ class Arithmetic:
     def compare_pointers(self, sign, one, other, coord):
         for this, that in ((one, other), (other, one)):
             if that.const == 0 and known(that.type).is_integer or that.const == 0 and that.text == "0":
+                if this.base:
+                    return self.compare_pointers(sign, this.base, number(0, INT), coord)
                 if this.array or this.reaches:
                     if sign in OPPOSITE:
                         return number(int(sign == "!="), INT)

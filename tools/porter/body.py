@@ -144,6 +144,7 @@ class Body(Expressions, Effects, Calls, Statements, Jumps, Initial, Declarations
         base, count = base_of(kind)
         if base.is_struct:
             self.unit.wants_complete(base, self.coord)
+        self.unit.fits(kind, self.coord)
         spelling = target_of(base) if kind.is_array or not sign_kept else target_of_value(kind)
         self.locals.append((spelling, name, count if kind.is_array else None))
         return name

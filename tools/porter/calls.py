@@ -4,7 +4,7 @@ import re
 from pycparser import c_ast
 
 from .common import MOST_PARAMETERS, Refused
-from .ctypes import (CHAR, INT, UNSIGNED, Function, Pointer, Void, base_of, is_function_pointer, known, promoted,
+from .ctypes import (CHAR, INT, LONG, UNSIGNED, Function, Pointer, Void, base_of, is_function_pointer, known, promoted,
                      size_of, target_of)
 from .values import ATOM, PRODUCT, Place, Value, number
 from .wide import pair
@@ -153,6 +153,41 @@ class Calls:
         return self.finished(target, kind.result, [pointer.text, *texts], coord, wanted)
 
     # The library
+
+    def call_port_expect(self, node, arguments, wanted):
+        """gcc evaluates what is expected, too."""
+        return self.convert(self.first_of(node, arguments), LONG, node.coord)
+
+    def call_offsetof(self, node, arguments, wanted):
+        return number(self.offset_in(known(self.type_of(arguments[0])), arguments[1])[0], UNSIGNED)
+
+    def offset_in(self, kind, node):
+        """Where a member or an element begins, in bytes, and its type."""
+        if isinstance(node, c_ast.ArrayRef):
+            before, array = self.offset_in(kind, node.name)
+            index = self.constant_value(node.subscript)
+            if index is None or not array.is_array:
+                raise Refused(node.coord, "offsetof of an element that isn't constant")
+            return before + index * size_of(array.of, node.coord), known(array.of)
+        is_inner = isinstance(node, c_ast.StructRef)
+        before, struct = self.offset_in(kind, node.name) if is_inner else (0, kind)
+        member = struct.member((node.field if is_inner else node).name) if struct.is_struct else None
+        if member is None or member.width is not None:
+            raise Refused(node.coord, f"offsetof in {struct!r}")
+        size_of(struct, node.coord)
+        return before + member.offset, known(member.type)
+
+    def call_port_assume_aligned(self, node, arguments, wanted):
+        return self.first_of(node, arguments)
+
+    def call_port_prefetch(self, node, arguments, wanted):
+        self.first_of(node, arguments)
+        return Value("0", ATOM, self.unit.void)
+
+    def first_of(self, node, arguments):
+        if not arguments:
+            raise Refused(node.coord, f"{node.name.name.replace('port', '__builtin')} without arguments")
+        return self.ordered(*arguments)[0]
 
     def call_abort(self, node, arguments, wanted):
         self.emit(f"{self.unit.helper_abort()}();")

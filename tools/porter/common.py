@@ -1,4 +1,5 @@
 """What the modules of the porter share: the refusal, and the names that the target language reserves."""
+from contextlib import contextmanager
 
 RESERVED = set("""auto break case char const continue default do double else enum extern float for goto if inline int
 long register restrict return short signed sizeof static struct switch typedef union unsigned void volatile while
@@ -18,6 +19,16 @@ class Refused(Exception):
     def message(self):
         file = getattr(self.coord, "file", None) or "?"
         return f"{file}:{getattr(self.coord, 'line', None) or 0}: refused: {self.what}"
+
+
+@contextmanager
+def placed(body):
+    """A refusal without a place gets that of the statement or declaration at which the translator is."""
+    try:
+        yield
+    except Refused as refusal:
+        refusal.coord = refusal.coord or body.coord
+        raise
 
 
 class Names:

@@ -99,8 +99,8 @@ class Struct(Type):
     is_struct = True
 
     def __init__(self, tag):
-        self.tag, self.members, self.defined_at, self.target = tag, None, None, None
-        self.group, self.is_union, self.seen = self, False, None
+        self.tag, self.members, self.defined_at, self.target, self.coord = tag, None, None, None, None
+        self.group, self.is_union, self.is_packed, self.seen = self, False, False, None
 
     def kept(self):
         """The members that take cells: of a union the one that the program uses."""
@@ -147,18 +147,18 @@ def layout(struct, coord):
         raise Refused(coord, f"the size of the incomplete {struct!r}")
     at, most = 0, 1
     if struct.is_union:
-        most = max(align_of(it.type, coord) for it in struct.members)
+        most = 1 if struct.is_packed else max(align_of(it.type, coord) for it in struct.members)
         size = max(size_of(it.type, coord) for it in struct.members)
         return (size + most - 1) // most * most, most
     for it in struct.members:
-        align = align_of(it.type, coord)
+        align = 1 if struct.is_packed else align_of(it.type, coord)
         if it.width is None:
             at = (at + 8 * align - 1) // (8 * align) * 8 * align
             it.offset = at // 8
             at += 8 * size_of(it.type, coord)
         else:
             unit = 8 * it.type.size
-            if it.width == 0 or at // unit != (at + it.width - 1) // unit:
+            if it.width == 0 or not struct.is_packed and at // unit != (at + it.width - 1) // unit:
                 at = (at + unit - 1) // unit * unit
             at += it.width
         if it.name or it.width is None:
@@ -173,6 +173,14 @@ def base_of(kind):
         count *= kind.count or 1
         kind = known(kind.of)
     return kind, count
+
+
+def cells_of(kind):
+    """How many cells an object of this type takes."""
+    kind, count = base_of(kind)
+    if kind.is_struct:
+        return count * sum(cells_of(it.type) for it in kind.kept()) if kind.members is not None else count
+    return 2 * count if kind.is_wide else count
 
 
 def target_of(kind):

@@ -121,16 +121,19 @@ class Declarations:
         if node.values is None:
             found = self.scope.find_tag(node.name)
             return found if found is not None else UNSIGNED
-        value, least = 0, 0
+        value, values = 0, []
         for it in node.values.enumerators:
             if it.value is not None:
                 value = self.constant_value(it.value)
                 if value is None:
                     raise Refused(it.coord, "a constant that isn't known")
-            self.scope.names[it.name] = Entity("constant", it.name, INT, value=value)
-            least = min(least, value)
+            values.append(value)
+            if value > UNSIGNED.most or min(values) < INT.least or min(values) < 0 and max(values) > INT.most:
+                raise Refused(it.coord, "an enumeration of more than 32 bits")
+            of = INT if value <= INT.most else UNSIGNED
+            self.scope.names[it.name] = Entity("constant", it.name, of, value=value)
             value += 1
-        kind = INT if least < 0 else UNSIGNED
+        kind = INT if min(values) < 0 else UNSIGNED
         if node.name:
             self.scope.tags[node.name] = kind
         return kind
@@ -160,7 +163,7 @@ class Declarations:
                 if node.name:
                     self.scope.tags[node.name] = struct
             if struct.members is None:
-                struct.defined_at = where
+                struct.defined_at, struct.coord = where, node.coord
                 self.define(struct, node)
             elif node.name or True:
                 self.see_again(node)
@@ -180,6 +183,9 @@ class Declarations:
         for at, it in enumerate(node.decls):
             if not isinstance(it, c_ast.Decl):
                 continue
+            if it.name == "port_packed":
+                struct.is_packed = True
+                continue
             kind = known(self.type_of(it, (struct.defined_at, at, it.name)))
             width = None
             if it.bitsize is not None:
@@ -195,6 +201,7 @@ class Declarations:
             members.append(Member(it.name, kind, width))
         struct.members = members
         self.unit.defined(struct)
+        self.unit.fits(struct, node.coord)
 
     def completed(self, kind, init):
         """The type of an array whose length its initialiser gives."""

@@ -29,10 +29,11 @@ class Effects:
 
     # Temporaries
 
-    def temporary(self, spelling):
-        """A variable that no other part of the statement uses. Those of a statement are free after it."""
+    def temporary(self, spelling, is_new=False):
+        """A variable that no other part of the statement uses. Those of a statement are free after it. One that lives
+        through statements that have been translated already has to be new."""
         free = self.free.setdefault(spelling, [])
-        if free:
+        if free and not is_new:
             name = free.pop()
         else:
             name = self.names.take({"int": "t", "unsigned int": "u"}.get(spelling, "q"))

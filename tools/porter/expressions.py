@@ -57,7 +57,7 @@ class Expressions(Arithmetic, Wide):
         entity = self.find(node.name, node.coord)
         kind = entity.kind
         if kind == "constant":
-            return number(entity.value, INT)
+            return number(entity.value, entity.type)
         if kind == "function":
             return Place(entity.name, ATOM, entity.type)
         if kind != "variable":
@@ -97,6 +97,7 @@ class Expressions(Arithmetic, Wide):
             return Place(moved.text, moved.level, inner)
         if index.low:
             index = index.low
+        base = self.save(base) if base.const == 0 else base
         if base.reaches is not None and index.const == 0:
             return base.reaches
         return Place(f"{base.at(POSTFIX)}[{index.text}]", POSTFIX, inner)
@@ -106,6 +107,7 @@ class Expressions(Arithmetic, Wide):
             base = self.word(node.name)
             kind = known(base.type)
             struct = known(kind.to) if kind.is_pointer else kind
+            base = self.save(base) if base.const == 0 else base
             text = f"{base.at(POSTFIX)}->"
             if base.reaches is not None:
                 text = f"{base.reaches.at(POSTFIX)}."
@@ -123,7 +125,11 @@ class Expressions(Arithmetic, Wide):
         if member is None:
             raise Refused(node.coord, f"{struct!r} has no known member {node.field.name}")
         target = self.unit.sees(struct, member, node.coord) if struct.is_union else member.target
-        return Place(text + target, POSTFIX, member.type, "s", member.width)
+        made = Place(text + target, POSTFIX, member.type, "s", member.width)
+        size_of(struct, node.coord)
+        if member.offset == 0 and member.width is None:
+            made.base = base if node.type == "->" else getattr(base, "base", None)
+        return made
 
     def dereferenced(self, value, coord):
         kind = known(value.type)
@@ -138,6 +144,7 @@ class Expressions(Arithmetic, Wide):
             return Place(value.text, value.level, inner)
         if value.reaches is not None:
             return value.reaches
+        value = self.save(value) if value.const == 0 else value
         return Place(f"*{value.at(PREFIX)}", PREFIX, inner)
 
     def address(self, node):
@@ -157,10 +164,10 @@ class Expressions(Arithmetic, Wide):
             return self.function_number(found, node.coord)
         if kind.is_array:
             made = Value(found.text, found.level, self.pointer_to(kind), "p")
-            made.array = kind
+            made.array, made.base = kind, found.base
             return made
         made = Value(f"&{found.at(PREFIX)}", PREFIX, self.pointer_to(kind), "p")
-        made.reaches, made.is_fixed = found, found.text.isidentifier()
+        made.reaches, made.is_fixed, made.base = found, found.text.isidentifier(), found.base
         return made
 
     def pointer_to(self, kind):

@@ -68,6 +68,8 @@ class Fill:
             else:
                 raise Refused(node.coord, "an initialiser of several values for one")
         elif kind.is_struct:
+            if not leaves_of(kind):
+                raise Refused(node.coord, "an initialiser of a structure without members")
             self.table[base] = ("struct", kind, node)
         elif kind.is_array:
             raise Refused(node.coord, "an initialiser of an array")

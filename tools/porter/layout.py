@@ -1,7 +1,9 @@
 """How structures are written: in an order in which each is defined before it is used, and structures that point to
 each other as one, which has the members of all."""
 from .common import Names, Refused
-from .ctypes import base_of, is_function_pointer, known, target_of, unify
+from .ctypes import base_of, cells_of, is_function_pointer, known, target_of, unify
+
+MOST_CELLS = 1 << 20
 
 
 def mentioned(kind):
@@ -21,6 +23,10 @@ class Layout:
     def begin_layout(self):
         if not hasattr(self, "tags"):
             self.tags = Names({"wide_word"})
+
+    def fits(self, kind, coord):
+        if cells_of(kind) > MOST_CELLS:
+            raise Refused(coord, f"an object of {cells_of(kind)} cells, more than {MOST_CELLS}")
 
     def defined(self, struct):
         if struct.target is None:
@@ -62,7 +68,8 @@ class Layout:
                     for member in struct.members:
                         for inner, is_kept in mentioned(member.type):
                             if is_kept and inner in parts:
-                                raise Refused(None, f"{struct!r} has {inner!r} as a member, which points back to it")
+                                raise Refused(struct.coord, f"{struct!r} has {inner!r} as a member, which points "
+                                                            "back to it")
                         if member.name:
                             member.target = names.take(member.name)
             for struct in parts:

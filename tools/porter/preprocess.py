@@ -31,24 +31,32 @@ DEFINED = {
     "__builtin_strncpy": "strncpy", "__builtin_strcat": "strcat", "__builtin_strchr": "strchr",
     "__builtin_strrchr": "strrchr", "__builtin_malloc": "malloc", "__builtin_free": "free",
     "__builtin_calloc": "calloc", "__builtin_abs": "abs", "__builtin_labs": "labs",
-    "__builtin_offsetof(t,m)": "offsetof(t,m)", "__builtin_expect(e,c)": "(e)",
+    "__builtin_offsetof(t,m)": "offsetof(t,m)", "__builtin_expect": "port_expect",
     "__builtin_ffs": "ffs", "__builtin_ffsl": "ffs", "__builtin_clz": "port_clz", "__builtin_ctz": "port_ctz",
     "__builtin_clzl": "port_clz", "__builtin_ctzl": "port_ctz", "__builtin_popcount": "port_popcount",
     "__builtin_popcountl": "port_popcount", "__builtin_parity": "port_parity", "__builtin_parityl": "port_parity",
     "__builtin_bswap32": "port_bswap32", "__builtin_bswap16": "port_bswap16", "__builtin_strstr": "strstr",
     "__builtin_isdigit": "isdigit", "__builtin_toupper": "toupper", "__builtin_tolower": "tolower",
     "__builtin_memchr": "memchr", "__builtin_strncat": "strncat", "__builtin_strspn": "strspn",
-    "__builtin_strcspn": "strcspn", "__builtin_strpbrk": "strpbrk", "__builtin_prefetch(...)": "((void)0)",
+    "__builtin_strcspn": "strcspn", "__builtin_strpbrk": "strpbrk", "__builtin_prefetch": "port_prefetch",
     "__builtin_putchar": "putchar", "__builtin_puts": "puts", "__builtin_llabs": "llabs",
     "__builtin_clzll": "port_clzll", "__builtin_ctzll": "port_ctzll", "__builtin_popcountll": "port_popcountll",
     "__builtin_bswap64": "port_bswap64", "__builtin_ffsll": "port_ffsll", "__builtin_parityll": "port_parityll",
-    "__builtin_trap": "abort", "__builtin_unreachable": "abort", "__builtin_assume_aligned(p,...)": "(p)",
+    "__builtin_trap": "abort", "__builtin_unreachable": "abort", "__builtin_assume_aligned": "port_assume_aligned",
 }
 HARMLESS = set("""noinline noclone unused used const pure noreturn always_inline noipa cold hot nothrow leaf malloc
-returns_nonnull nonnull warn_unused_result deprecated no_instrument_function optimize gnu_inline artificial flatten
+returns_nonnull nonnull warn_unused_result deprecated optimize gnu_inline artificial flatten
 format no_reorder noplt externally_visible no_icf stack_protect no_sanitize_undefined may_alias_none fallthrough
 alloc_size access visibility""".split())
+PACKED = "char port_packed;"
+UNKNOWN = {"__typeof__", "typeof", "__typeof", "__label__", "__alignof__", "__alignof", "_Alignas", "_Alignof",
+           "_Generic", "_Thread_local", "__thread", "_Atomic", "va_arg", "__builtin_va_arg", "__builtin_choose_expr",
+           "__builtin_types_compatible_p"}
+PRAGMAS = re.compile(r"#\s*pragma\s*($|(once|message|mark|region|endregion|omp|clang|STDC FP_CONTRACT|"
+                     r"GCC (diagnostic|ivdep|unroll|optimize|poison|system_header|push_options|pop_options|visibility|"
+                     r"warning|error|target))\b)")
 MARKER = re.compile(r'#\s*(?:line\s+)?(\d+)\s+"((?:[^"\\]|\\.)*)"')
+EFFECT = re.compile(r"\+\+|--|[\w)\]]\s*\(|=")
 WORD = re.compile(r'"(?:[^"\\\n]|\\.)*"|\'(?:[^\'\\\n]|\\.)*\'|[A-Za-z_]\w*|[()]|\n|[^\w"\'()\n]+|\d\w*|.', re.S)
 
 
@@ -68,7 +76,7 @@ def preprocessed(path, folders, defines):
         parts = re.match(r"([^:]+):(\d+):(?:\d+:)?\s*(?:fatal )?(?:error: )?(.*)", fault)
         if parts:
             raise Refused(Place(parts.group(1), int(parts.group(2))), f"the preprocessor says: {parts.group(3)}")
-        raise Refused(Place(path, 0), f"the preprocessor says: {fault}")
+        raise Refused(Place(path, 1), f"the preprocessor says: {fault}")
     return ran.stdout.decode("latin-1")
 
 
@@ -83,7 +91,8 @@ def attribute_names(text):
 
 
 def empty_assembler(words, at):
-    """How many words an asm statement takes that does nothing: its text is empty, and each output is its own input."""
+    """How many words an asm statement takes that does nothing: its text is empty, each output is its own input, and no
+    operand has an effect."""
     taken, depth = [], 0
     while at < len(words) and len(taken) < 400:
         taken.append(words[at])
@@ -93,23 +102,57 @@ def empty_assembler(words, at):
             break
     text = re.sub(r"\b(volatile|__volatile__|__volatile)\b", "", "".join(taken))
     parts = re.fullmatch(r'\s*\(\s*((?:""\s*)+)(:(?P<out>[^:]*)(:.*)?)?\)', text, re.S)
-    if not parts or "++" in text or "--" in text:
+    if not parts or EFFECT.search(re.sub(r'"[^"]*"\s*\(', "(", text)):
         return 0
     outputs = re.findall(r'"([^"]*)"', parts.group("out") or "")
     return len(taken) if all(it.startswith("+") for it in outputs) else 0
 
 
 class Context:
-    """Whether a declaration is one of objects, where an alignment changes nothing that a program can see."""
+    """Whether a declaration is one of objects, where an alignment changes nothing that a program can see; and which
+    structures are packed: these get a member of the name PACKED."""
 
     def __init__(self):
-        self.structs, self.words = [], []
+        self.structs, self.words, self.packs, self.is_packed = [], [], [False], False
+
+    def pragma(self, text):
+        """Whether this is a `#pragma pack` that is understood: of one byte, or back to what was."""
+        parts = re.fullmatch(r"#\s*pragma\s+pack\s*\(\s*(?:(push)\s*,\s*)?(1|push|pop|)\s*\)", text)
+        if not parts or parts.group(2) == "pop" and len(self.packs) == 1:
+            return False
+        if "push" in parts.groups():
+            self.packs.append(self.packs[-1])
+        if parts.group(2) == "pop":
+            self.packs.pop()
+        elif parts.group(2) != "push":
+            self.packs[-1] = parts.group(2) == "1"
+        return True
+
+    def packs_here(self, kept):
+        """Takes the attribute `packed` of a structure, before its members or right after them."""
+        if self.words[-1:] == ["}"]:
+            at = next(at for at in range(len(kept) - 1, -1, -1) if "}" in kept[at] and kept[at][0] not in "\"'")
+            before, _, after = kept[at].rpartition("}")
+            kept[at] = f"{before} {PACKED} }}{after}"
+            return True
+        self.is_packed = self.words[-1:] in (["struct"], ["union"])
+        return self.is_packed
+
+    def begins_members(self):
+        """Whether a brace would follow `struct`, or it and a tag."""
+        last = self.words[-2:]
+        return bool(last) and (last[-1] in ("struct", "union") or last[0] in ("struct", "union") and last[1].isidentifier())
+
+    def marked(self, word):
+        """The word, with the mark behind the brace of a packed structure."""
+        if "{" in word and word[0] not in "\"'" and self.begins_members() and (self.is_packed or self.packs[-1]):
+            word, self.is_packed = word.replace("{", f"{{ {PACKED}", 1), False
+        return word
 
     def see(self, word):
         for mark in word if not word[0].isalnum() and word[0] not in "_\"'" else (word,):
             if mark == "{":
-                self.structs.append(bool({"struct", "union"} & set(self.words)) and
-                                    not {"(", "="} & set(self.words))
+                self.structs.append(self.begins_members())
                 self.words = []
             elif mark == "}":
                 if self.structs:
@@ -132,51 +175,64 @@ def without_attributes(text, path):
         at += 1
         if word == "\n":
             place = Place(place.file, place.line + 1)
-        elif word in ("__attribute__", "__attribute"):
-            taken, depth, first = [], 0, place
-            while at < len(words):
-                depth += (words[at] == "(") - (words[at] == ")")
-                taken.append(words[at])
-                at += 1
-                if depth == 0 and words[at - 1] == ")":
-                    break
-            for name in attribute_names("".join(taken)):
-                if name not in HARMLESS and not (name == "aligned" and context.is_object()):
-                    raise Refused(first, f"attribute {name}")
-            word = "\n" * taken.count("\n")
-            place = Place(place.file, place.line + len(word))
-        elif word in ("asm", "__asm__", "__asm"):
-            length = empty_assembler(words, at)
-            if not length:
+        elif word in ("__attribute__", "__attribute", "asm", "__asm__", "__asm"):
+            end = after_attribute(words, at, place, context, kept) if "attr" in word else \
+                at + empty_assembler(words, at)
+            if end == at:
                 raise Refused(place, "asm")
-            word = "\n" * "".join(words[at:at + length]).count("\n")
-            at += length
+            word, at = "\n" * "".join(words[at:end]).count("\n"), end
             place = Place(place.file, place.line + len(word))
-        elif word in ("__typeof__", "typeof", "__typeof", "__label__", "__alignof__", "__alignof", "_Alignas",
-                      "_Alignof", "_Generic", "_Thread_local", "__thread", "_Atomic"):
+        elif word in UNKNOWN:
             raise Refused(place, word)
         elif word.lstrip().startswith("#") and (not kept or kept[-1].endswith("\n")):
-            rest = "".join(words[at - 1:at + 12]).split("\n")[0]
-            marker = MARKER.match(rest.lstrip())
+            end = next((it for it in range(at, len(words)) if words[it] == "\n"), len(words))
+            word, at = "".join(words[at - 1:end]), end
+            marker = MARKER.match(word.strip())
             if marker:
                 place = Place(marker.group(2), int(marker.group(1)) - 1)
+            elif not PRAGMAS.match(word.strip()) and not context.pragma(word.strip()):
+                raise Refused(place, word.strip())
         else:
+            marked = context.marked(word)
             context.see(word)
+            word = marked
         kept.append(word)
     return "".join(kept)
+
+
+def after_attribute(words, at, place, context, kept):
+    """Where the words after an attribute begin; one that may change what the program means is refused."""
+    depth, end = 0, at
+    while end < len(words):
+        depth += (words[end] == "(") - (words[end] == ")")
+        end += 1
+        if depth == 0 and words[end - 1] == ")":
+            break
+    for name in attribute_names("".join(words[at:end])):
+        if name not in HARMLESS and not (name == "aligned" and context.is_object()) and \
+                not (name == "packed" and context.packs_here(kept)):
+            raise Refused(place, f"attribute {name}")
+    return end
 
 
 def tree_of(path, folders, defines):
     """pycparser's tree of a file. What it can't parse is refused at its line."""
     text = without_attributes(preprocessed(path, folders, defines), path)
-    text = "\n".join("" if line.lstrip().startswith("#pragma") and "compartment" not in line else line
-                     for line in text.split("\n"))
+    text = "\n".join("" if line.lstrip().startswith("#pragma") else line for line in text.split("\n"))
+    parser = c_parser.CParser()
     try:
-        return c_parser.CParser().parse(text, path)
+        return parser.parse(text, path)
     except ParseError as error:
         parts = re.match(r"(.*?):(\d+)(?::\d+)?: (.*)", str(error))
         if parts:
             raise Refused(Place(parts.group(1), int(parts.group(2))), f"no C11 that pycparser reads: {parts.group(3)}")
-        raise Refused(Place(path, 0), f"no C11 that pycparser reads: {error}")
+        raise Refused(reached(parser, path), f"no C11 that pycparser reads: {str(error).split(': ')[-1]}")
     except RecursionError:
-        raise Refused(Place(path, 0), "nested too deep for the parser")
+        raise Refused(reached(parser, path), "nested too deep for the parser")
+
+
+def reached(parser, path):
+    """The place up to which the parser has read."""
+    lexer = getattr(parser.clex, "lexer", parser.clex)
+    line = getattr(lexer, "lineno", None) or getattr(lexer, "_lineno", 1)
+    return Place(parser.clex.filename or path, line)

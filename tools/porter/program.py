@@ -1,8 +1,9 @@
 """All sections together: what crosses between them, and the two passes. The first finds which type each `void` behind
 a pointer stands for, the second writes."""
 from .body import Body
-from .common import Refused
+from .common import Refused, placed
 from .ctypes import Void, known
+from .preprocess import Place
 from .printing import Printer
 from .units import Unit
 
@@ -54,7 +55,7 @@ class Program:
         found = [(unit, unit.functions["main"]) for unit in self.units
                  if "main" in unit.functions and unit.functions["main"].node is not None]
         if len(found) != 1:
-            raise Refused(found[1][1].node.coord if found else None,
+            raise Refused(found[1][1].node.coord if found else Place(self.units[0].paths[0], 1),
                           "a second main" if found else "no file defines main")
         return found[0]
 
@@ -65,7 +66,7 @@ class Program:
             self.perform(True)
             if Void.found == before:
                 return
-        raise Refused(None, "a void pointer whose type the porter doesn't find")
+        raise Refused(self.main_unit()[1].node.coord, "a void pointer whose type the porter doesn't find")
 
     def perform(self, is_last):
         """One pass over all that is reached."""
@@ -90,7 +91,8 @@ class Program:
                 unit.file = entity.file
                 body = Body(unit, entity.scope, entity)
                 try:
-                    unit.written[id(entity)] = (entity, body.translate())
+                    with placed(body):
+                        unit.written[id(entity)] = (entity, body.translate())
                 except (AttributeError, TypeError, KeyError, IndexError, ValueError, AssertionError) as error:
                     if self.shows_faults:
                         raise

@@ -158,7 +158,7 @@ class Statements:
         if not continued:
             self.lines.append(("loop", "while (1)", [*lines, *before, *test], self.coord))
             return
-        first = self.temporary("int")
+        first = self.temporary("int", is_new=True)
         self.emit(f"{first.text} = 1;")
         check = ("if", f"{first.text} == 0", [*before, *test], [], self.coord)
         self.lines.append(("loop", "while (1)", [check, self.line(f"{first.text} = 0;"), *lines], self.coord))
@@ -191,7 +191,7 @@ class Statements:
         elif not continued or not after:
             self.while_loop(before, condition, [*lines, *after])
         else:
-            first = self.temporary("int")
+            first = self.temporary("int", is_new=True)
             self.emit(f"{first.text} = 1;")
             check = ("if", first.text, [self.line(f"{first.text} = 0;")], after, self.coord)
             self.lines.append(("loop", "while (1)", [check, *before, *test, *lines], self.coord))

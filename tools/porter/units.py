@@ -4,7 +4,7 @@ import os
 from pycparser import c_ast
 
 from .body import Body
-from .common import Names, Refused
+from .common import Names, Refused, placed
 from .ctypes import CHAR, INT, VOID, Array, Function, Struct, Void, base_of, known, target_of, unify
 from .declarations import Entity, Scope
 from .helpers import Helpers
@@ -29,7 +29,8 @@ IN_LIBRARY = {
 FILE_OF = {name: file for file, names in IN_LIBRARY.items() for name in names.split()}
 OF_THE_COMPILER = {"abs", "labs", "llabs", "ffs"}
 BUILTINS = {"abort", "exit", "malloc", "calloc", "free", "memcpy", "memmove", "memset", "memcmp", "memchr",
-            "qsort"}
+            "qsort", "port_expect", "port_prefetch", "port_assume_aligned",
+            "offsetof"}
 
 
 class Unit(Helpers, Layout, Variables, Sections):
@@ -78,7 +79,8 @@ class Unit(Helpers, Layout, Variables, Sections):
         body = Body(self, scope)
         for node in self.trees[path].ext:
             body.coord = node.coord
-            self.see(node, body, path)
+            with placed(body):
+                self.see(node, body, path)
 
     def see(self, node, body, path):
         if isinstance(node, c_ast.Typedef):
@@ -357,6 +359,7 @@ class Unit(Helpers, Layout, Variables, Sections):
         base = base_of(kind)[0]
         if base.is_struct:
             self.wants_complete(base, coord)
+        self.fits(kind, entity.coord)
         if entity.target is None:
             entity.target = self.names.take(entity.name)
         self.used[id(entity)] = entity

@@ -16,7 +16,7 @@ class Value:
     def __init__(self, text, level, kind, sign="s", const=None, raw=None, bits=0, span=None):
         self.text, self.level, self.type, self.sign, self.const = text, level, kind, sign, const
         self.raw, self.bits, self.low, self.high, self.fresh = raw, bits, None, None, False
-        self.array, self.reaches, self.made, self.is_fixed = None, None, None, False
+        self.array, self.reaches, self.made, self.is_fixed, self.base = None, None, None, False, None
         self.span = (const, const) if const is not None else span
 
     def at(self, level):
@@ -32,10 +32,10 @@ class Value:
 
 class Place:
     """What can be assigned. `sign` is that of its variable; `width` the bits of a bit field; of an array, `text` is the
-    pointer to its first element."""
+    pointer to its first element. `base` is the pointer to a structure of which this is the first member."""
 
     def __init__(self, text, level, kind, sign="s", width=None):
-        self.text, self.level, self.type, self.sign, self.width = text, level, kind, sign, width
+        self.text, self.level, self.type, self.sign, self.width, self.base = text, level, kind, sign, width, None
 
     def at(self, level):
         return self.text if self.level >= level else f"({self.text})"

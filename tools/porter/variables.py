@@ -1,7 +1,7 @@
 """Globals and their first values. Integers and arrays of integers get initialisers; the others are set by functions
 that run before the section's first function."""
 from .body import Body
-from .common import Refused
+from .common import Refused, placed
 from .ctypes import base_of, known
 from .initial import Fill, leaf_place, leaves_of
 from .values import ATOM, Place
@@ -27,6 +27,10 @@ class Variables:
         kind = known(entity.type)
         body = Body(self, entity.scope)
         body.coord, body.function = entity.init.coord or entity.coord, None
+        with placed(body):
+            self.fill_variable(entity, kind, body)
+
+    def fill_variable(self, entity, kind, body):
         fill = Fill(body)
         fill.whole(kind, entity.init, 0)
         base, _ = base_of(kind)
