@@ -1,11 +1,17 @@
 #!/usr/bin/env python3
 """Checks what `secomp explain --image` says of images in which some compartments have machine code of anybody's.
 
-The texts are those of `outsider_texts.py`. In the image of each, one to all compartments get instructions from the seed:
-calls of what they import, returns, loads and stores around their own and others' data, system calls, branches, jumps and
-random words. Then:
+The texts are those of `outsider_texts.py`. In each image, one to all compartments are given, in one of four ways:
 
-- the given compartments are those that got code, in order;
+- code: they get instructions from the seed, calls of what they import, returns, loads and stores around their own and
+  others' data, system calls, branches, jumps and random words;
+- version 1: the same in the first version of the format, where no other compartment has a heap;
+- objects: `link` joins objects of the same sections with other constants and operators in them;
+- foreign: it joins objects that `tools/foreign` makes of C from the seed, where there is a cross compiler.
+
+Then:
+
+- the given compartments are those that differ, in order;
 - the trace and the stop are those that `exec` writes for the image;
 - the first text replaces the sections of the given compartments, each later one that of one compartment more, and all
   else stays byte for byte;
@@ -22,20 +28,27 @@ import itertools
 import os
 import random
 import re
+import shutil
 import struct
 import subprocess
 import sys
+import tempfile
 from concurrent.futures import ThreadPoolExecutor
 
 sys.dont_write_bytecode = True
 sys.path.append(os.path.join(os.path.dirname(os.path.dirname(os.path.realpath(__file__))), "tools"))
 from chains import LINK, MOST_SETS, sections_of
-from machine_code import Code, code_start, written
+from machine_code import Code, code_start, globals_start, written
 from outsider_texts import Maker
-from seeds import arguments, keep
+from seeds import TOP, arguments, keep
 
 GIVEN = re.compile(r"given (\w+)")
 OTHER = b"#pragma compartment Alone\nint main(void) { return 0; }\n"
+WAYS = ["code", "version 1", "objects"] + ["foreign"] * bool(shutil.which("riscv64-unknown-elf-gcc"))
+SHARES = [6, 6, 7, 1]
+PROTOTYPE = re.compile(r"^(\w+(?: int)?) (\w+)\((.*)\);", re.M)
+OPERATOR = re.compile(r" [-+*|&] |\b[1-9]\b")
+HEAP = 4
 
 
 class Image:
@@ -55,17 +68,19 @@ class Image:
         return self.data[self.at - size:self.at]
 
     def comp(self):
-        """A compartment: its fields up to its code as bytes, the addresses that enter it, what it imports, its parts."""
+        """A compartment: its fields up to its code as bytes, the place of its permissions in them, the addresses that
+        enter it, what it imports, its parts."""
         start = self.at
         name = self.bytes(self.number(1))
+        flags = self.at
         self.at += 1
         exports = [(self.bytes(self.number(1)), self.number(1), self.number(1), self.number(4))
                    for _ in range(self.number(2))]
         imports = [(self.number(1), self.number(2)) for _ in range(self.number(2))]
-        head = self.data[start:self.at]
+        head, flags = bytearray(self.data[start:self.at]), flags - start
         code, data = self.bytes(self.number(4)), self.bytes(self.number(4))
         return {"name": name.decode(), "entries": [each[3] for each in exports],
-                "imports": imports, "head": head, "code": code, "globals": data}
+                "imports": imports, "head": head, "flags": flags, "code": code, "globals": data}
 
     def written(self):
         """The image's bytes."""
@@ -76,11 +91,50 @@ class Image:
         return out
 
 
+class Foreign:
+    """C for a section, from random numbers: functions that read and write memory and call what the section imports."""
+
+    def __init__(self, draw, header):
+        self.draw = draw
+        own, _, others = header.partition("/* Its imports")
+        self.own, self.others = PROTOTYPE.findall(own), PROTOTYPE.findall(others)
+
+    def value(self):
+        """An expression."""
+        return self.draw.choice(["state", "(int)x", "0x7fffffff", str(self.draw.randrange(-9, 300))])
+
+    def call(self):
+        """A call of what the section imports or defines."""
+        _, name, params = self.draw.choice(self.others or self.own)
+        count = 0 if params in ("", "void") else params.count(",") + 1
+        return "if (state++ < 40) %s(%s);" % (name, ", ".join(self.value() for _ in range(count)))
+
+    def statement(self):
+        """A statement: mostly a call, else an access of the own data or of anybody's."""
+        near = globals_start(self.draw.randrange(4)) + 4 * self.draw.randrange(-8, 16)
+        kinds = [self.call, lambda: "cells[(unsigned)state % 8] += " + self.value() + ";",
+                 lambda: "x = *(volatile int *)0x%xu;" % near, lambda: "*(volatile int *)0x%xu = x;" % near]
+        return self.draw.choices(kinds, [8, 4, 1, 1])[0]()
+
+    def text(self):
+        """The file."""
+        made = ['#include "section.h"', "static int state, cells[8];"]
+        for result, name, params in self.own:
+            names = "" if params in ("", "void") else ", ".join(
+                "%s a%d" % (each.strip(), number) for number, each in enumerate(params.split(",")))
+            made += ["%s %s(%s) {" % (result, name, names or "void"), "  volatile int x = 3;"]
+            made += ["  " + self.statement() for _ in range(self.draw.randrange(1, 8))]
+            made += [] if result == "void" else ["  return %s;" % self.value()]
+            made.append("}")
+        return "\n".join(made) + "\n"
+
+
 class Case:
     """A text and an image of which some compartments are given, with what the program says of them."""
 
     def __init__(self, seed, program):
         maker = Maker(seed)
+        self.way = random.Random("way %d" % seed).choices(WAYS, SHARES[:len(WAYS)])[0]
         self.seed, self.program, self.text, self.draw = seed, program, maker.text(), random.Random(seed)
         self.inputs = ["--in=" + ",".join(map(str, maker.inputs))] if maker.inputs else []
 
@@ -90,22 +144,79 @@ class Case:
         return ran.returncode, (ran.stdout if ran.returncode == 0 else ran.stderr).decode("latin1")
 
     def make(self, own):
-        """The image with other code in some compartments, and their names."""
+        """An image of which some compartments are given, and their names."""
         image = Image(own)
         numbers = [each for each in range(len(image.comps)) if self.draw.random() < 0.5]
         numbers = numbers or [self.draw.randrange(len(image.comps))]
+        names = [image.comps[number]["name"] for number in numbers]
+        heaps = any(comp["head"][comp["flags"]] & HEAP for comp in image.comps if comp["name"] not in names)
+        if self.way in ("objects", "foreign"):
+            return self.linked(image, names, self.changed if self.way == "objects" else self.foreign)
+        if self.way == "version 1" and not heaps:
+            image.version = 1
+        else:
+            self.way = "code"
         for number in numbers:
-            comp = image.comps[number]
-            start = code_start(number)
-            last = max(comp["entries"], default=start)
-            imported = [image.comps[other]["entries"][index] for other, index in comp["imports"]]
-            code = Code(self.draw, number, [each["entries"] for each in image.comps], imported)
-            comp["code"] = written(code.words((last - start) // 4 + 1))
-            if self.draw.random() < 0.2:
-                comp["globals"] += bytes(4)
-            if number == image.main:
-                image.entry = start + 4 * self.draw.randrange(len(comp["code"]) // 4)
-        return image, [image.comps[number]["name"] for number in numbers]
+            self.give(image, number)
+        return image.written(), names
+
+    def give(self, image, number):
+        """Gives a compartment of an image code from random numbers."""
+        comp = image.comps[number]
+        start = code_start(number)
+        last = max(comp["entries"], default=start)
+        imported = [image.comps[other]["entries"][index] for other, index in comp["imports"]]
+        code = Code(self.draw, number, [each["entries"] for each in image.comps], imported)
+        comp["code"] = written(code.words((last - start) // 4 + 1))
+        if self.draw.random() < 0.2:
+            comp["globals"] += bytes(4)
+        if image.version == 1 or self.draw.random() < 0.1:
+            comp["head"][comp["flags"]] &= ~HEAP
+        if number == image.main:
+            image.entry = start + 4 * self.draw.randrange(len(comp["code"]) // 4)
+
+    def written(self, data, *words):
+        """The bytes that a command writes, none where it refuses."""
+        return subprocess.run([self.program, *words], input=data, capture_output=True, check=False).stdout
+
+    def linked(self, image, names, object_of):
+        """The image that `link` makes of objects, some of them another's, and the names of those that differ."""
+        own = {comp["name"]: self.written(self.text.encode(), "object", "--section", comp["name"])
+               for comp in image.comps}
+        objects = own | {name: made for name in names if (made := object_of(name))}
+        order = self.draw.sample(sorted(objects), len(objects))
+        return (self.written(b"".join(objects[name] for name in order), "link"),
+                [name for name in own if objects[name] != own[name]])
+
+    def changed(self, name):
+        """The object of a section in which some constants and operators are others, if it is accepted."""
+        preamble, sections = sections_of(self.text)
+        head, mark, body = sections[name].partition("{")
+        for share in (0.3, 0.1, 0.02):
+            other = OPERATOR.sub(lambda found: self.draw.choice([" - ", " + "] if found[0][0] == " " else "123456789")
+                                 if self.draw.random() < share else found[0], body)
+            text = preamble + "".join({**sections, name: head + mark + other}.values())
+            if made := self.written(text.encode(), "object", "--section", name):
+                return made
+        return b""
+
+    def foreign(self, name):
+        """The object of C from the seed for a section."""
+        with tempfile.TemporaryDirectory() as folder:
+            with open(os.path.join(folder, "text.c"), "w", encoding="utf-8") as out:
+                out.write(self.text)
+            header = self.tool(folder, "--header", "text.c", name).decode()
+            with open(os.path.join(folder, "section.c"), "w", encoding="utf-8") as out:
+                out.write(Foreign(self.draw, header).text())
+            self.tool(folder, "text.c", name, "section.c", "-o", "object")
+            with open(os.path.join(folder, "object"), "rb") as made:
+                return made.read()
+
+    def tool(self, folder, *words):
+        """What `tools/foreign` writes, which has to accept its input."""
+        ran = subprocess.run([os.path.join(TOP, "tools/foreign"), *words], cwd=folder, capture_output=True, check=True,
+                             env={**os.environ, "SECOMP": self.program})
+        return ran.stdout
 
     def meaning(self, text):
         """The events of a text's meaning, and how it ends."""
@@ -118,8 +229,7 @@ class Case:
         status, own = self.compiled()
         if status:
             return [], -1
-        image, given = self.make(own)
-        self.image = image.written()
+        self.image, given = self.make(own)
         status, out = self.run(self.image + self.text.encode(), "explain", "--image", *self.inputs)
         if status:
             return ["status %d: %s" % (status, out)], 0
@@ -187,17 +297,19 @@ class Case:
 def main():
     """Checks the texts of the seeds that the words name; the exit status."""
     words = arguments(__doc__, 1000)
-    counts, failed = collections.Counter(), 0
+    counts, ways, failed = collections.Counter(), collections.Counter(), 0
     cases = [Case(seed, words.secomp) for seed in range(words.seed, words.seed + words.texts)]
     with ThreadPoolExecutor(2) as pool:
         for case, (wrong, links) in zip(cases, pool.map(Case.check, cases)):
             counts[links] += 1
+            ways[case.way] += links >= 0
             if wrong:
                 failed += 1
                 print("seed %d: %s" % (case.seed, "; ".join(wrong)), flush=True)
                 keep(words.keep, case)
     print("images %d, by the length of the chain (-1: too large): %s" % (words.texts, ", ".join(
         "%d of %d" % (count, links) for links, count in sorted(counts.items()))))
+    print("given by " + ", ".join("%s: %d" % each for each in sorted(ways.items())))
     print("%d passed, %d failed" % (words.texts - failed, failed))
     return 1 if failed else 0
 

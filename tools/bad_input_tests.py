@@ -1,8 +1,8 @@
 #!/usr/bin/env python3
 """Gives the tools texts, reports, policies and images that are broken on purpose, from seeds, and holds each answer to
 a stated status, without a traceback and within a minute. The first fault that tools/why shows is of the phase of the
-program's refusal. `explain --image` and `judge --image` refuse what isn't an image and the text of its program, with the
-status for that and nothing on standard output.
+program's refusal. `explain --image` and `judge --image` refuse what isn't an image and the text of its program, with
+the status for that and nothing on standard output.
 
 The last line counts; the status is 1 if a test failed.
 """
@@ -117,8 +117,8 @@ def others(folder, number):
 
 
 def fields(image):
-    """Where the fields of each compartment of an image stand that the other compartments see, and of its code: a list of
-    (what, place, size) for each."""
+    """Where the fields of each compartment of an image stand that the other compartments see, and its code: a list of
+    (what, place, size) for each compartment."""
     at, found = 12, []
 
     def field(what, size):
@@ -160,7 +160,8 @@ def differing(image):
     for what in ("permissions", "parameters", "result"):
         at = (main if what == "permissions" else net)[what][0]
         yield "other " + what, put(image, at, 1, image[at] ^ 1)
-    yield "swapped entries", image[:entries[0]] + second + image[entries[0] + 4:entries[1]] + first + image[entries[1] + 4:]
+    yield "swapped entries", (image[:entries[0]] + second + image[entries[0] + 4:entries[1]] + first
+                              + image[entries[1] + 4:])
     yield "an entry further on", put(image, entries[1], 4, int.from_bytes(second, "little") + 4)
     yield "no import", put(image, imports, 2, 0)[:imports + 2] + image[size:]
     yield "imports in another order", image[:imports + 2] + image[imports + 5:imports + 8] + image[
