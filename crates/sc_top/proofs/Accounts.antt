@@ -30,6 +30,8 @@ use Rattle.sc_image.specs.Prelude.{IsButFor, IsWellFormed}
 use Rattle.std.specs.Prelude.{Bool}
 use Rattle.std.proofs.Math.Seq.{drop-append_seam}
 use Rattle.sc_top_words.specs.declared.command.RunOptions.{RunOptions}
+use Rattle.sc_top.proofs.Common.{AreImageAndText, IsJudged, IsPolicyRead, JudgeOptions, PolicyRead, take_all}
+use Rattle.sc_top.specs.Accounts.{CompiledImagesAreJudged, IsWholePolicy}
 
 -- THE IMAGE BEFORE THE TEXT
 
@@ -272,3 +274,93 @@ pub compiled_images_are_explained : ((text : List ℕ) (program other : ProgramT
     Accepts text program → Accepts text other → program ≡ other) → OwnImagesAreExplained → CompiledImagesAreExplained
 compiled_images_are_explained one_program law options text image short is =
     explains_so one_program law options text image short is
+
+-- A WHOLE POLICY
+
+module _ (policy : List ℕ) (whole : IsWholePolicy policy) (rest : List ℕ) where
+  -- it is read whatever follows it
+  read_again : IsPolicyRead (policy ++ rest) whole.read
+  read_again = record {
+    lines = whole.is.lines;
+    is = whole.is.is;
+    prefix = ap (λ n. take n (policy ++ rest)) whole.whole ∙ (take-append_seam policy rest ∙
+        (sym (ap (λ n. take n policy) whole.whole ∙ take_all (length policy) policy (omega arith)) ∙ whole.is.prefix));
+    within =
+        let longer = length-append policy rest in
+        let all = whole.whole in
+        omega (arith, longer, all);
+  }
+
+  -- and what follows it is left
+  left : drop whole.read.rest (policy ++ rest) ≡ rest
+  left = ap (λ n. drop n (policy ++ rest)) whole.whole ∙ drop-append_seam policy rest
+
+-- the same account of the same bytes
+abbrev account_at : (with_image : Bool) (options : RunOptions) (bytes others : List ℕ) → bytes ≡ others →
+    HasAccountIn with_image options bytes → HasAccountIn with_image options others
+account_at with_image options bytes others same found = record {
+  image = found.image;
+  text = found.text;
+  are = subst (λ b. AreImageAndText with_image b found.image found.text) same found.are;
+  has = found.has;
+}
+
+-- WHAT IS JUDGED
+
+abbrev judging_by : Bool → RunOptions → JudgeOptions
+judging_by with_image options = record { run = options; image = with_image; trapped = false }
+
+module _ (one_program : (text : List ℕ) (program other : ProgramTree) →
+    Accepts text program → Accepts text other → program ≡ other) (one_policy : (bytes : List ℕ)
+    (one other : PolicyRead) → IsPolicyRead bytes one → IsPolicyRead bytes other → one ≡ other)
+    (law : OwnImagesAreExplained) (options : RunOptions) (policy text image : List ℕ) (whole : IsWholePolicy policy)
+    (short : length text ≤ 1048576) (is : IsTextOutput Compile text image) where
+  -- the policy that is read of these bytes is read of others, too, and the rest of them follows
+  module _ (rest other : List ℕ) (read : PolicyRead) (known : IsPolicyRead (policy ++ rest) read) where
+    same_read : whole.read ≡ read
+    same_read = one_policy (policy ++ rest) whole.read read (read_again policy whole rest) known
+
+    read_of_other : IsPolicyRead (policy ++ other) read
+    read_of_other = subst (IsPolicyRead (policy ++ other)) same_read (read_again policy whole other)
+
+    left_of : (bytes : List ℕ) → drop read.rest (policy ++ bytes) ≡ bytes
+    left_of bytes = subst (λ (r : PolicyRead). drop r.rest (policy ++ bytes) ≡ bytes) same_read (left policy whole bytes)
+
+  to_text_judged : (out : List ℕ) → IsJudged (judging_by true options) (policy ++ (image ++ text)) out →
+      IsJudged (judging_by false options) (policy ++ text) out
+  unfolding to_text
+  to_text_judged out it = record {
+    read = it.read;
+    is = read_of_other (image ++ text) text it.read it.is;
+    found = account_at false options text (drop it.read.rest (policy ++ text))
+        (sym (left_of (image ++ text) text it.read it.is text))
+        (to_text one_program law options text image short is
+        (account_at true options (drop it.read.rest (policy ++ (image ++ text))) (image ++ text)
+        (left_of (image ++ text) text it.read it.is (image ++ text)) it.found));
+    written = it.written;
+    committed = it.committed;
+  }
+
+  from_text_judged : (out : List ℕ) → IsJudged (judging_by false options) (policy ++ text) out →
+      IsJudged (judging_by true options) (policy ++ (image ++ text)) out
+  unfolding from_text
+  from_text_judged out it = record {
+    read = it.read;
+    is = read_of_other text (image ++ text) it.read it.is;
+    found = account_at true options (image ++ text) (drop it.read.rest (policy ++ (image ++ text)))
+        (sym (left_of text (image ++ text) it.read it.is (image ++ text)))
+        (from_text one_program law options text image short is
+        (account_at false options (drop it.read.rest (policy ++ text)) text
+        (left_of text (image ++ text) it.read it.is text) it.found));
+    written = it.written;
+    committed = it.committed;
+  }
+
+pub compiled_images_are_judged : ((text : List ℕ) (program other : ProgramTree) →
+    Accepts text program → Accepts text other → program ≡ other) → ((bytes : List ℕ) (one other : PolicyRead) →
+    IsPolicyRead bytes one → IsPolicyRead bytes other → one ≡ other) → OwnImagesAreExplained →
+    CompiledImagesAreJudged
+compiled_images_are_judged one_program one_policy law options policy text image whole short is out = (
+  to_text_judged one_program one_policy law options policy text image whole short is out,
+  from_text_judged one_program one_policy law options policy text image whole short is out,
+)

@@ -6,7 +6,9 @@ use Rattle.sc_object.specs.Prelude.{AreObjectsButFor}
 use Rattle.sc_top.specs.Answer.{IsGood, IsWithin}
 use Rattle.sc_top.specs.Objects.{IsLinked}
 use Rattle.sc_top.specs.Output.{HasAccountIn, HasImage, IsOutput}
-use Rattle.sc_top_words.specs.declared.command.Command.TheVariants.{Compile, Exec, Explain}
+use Rattle.sc_top_words.specs.declared.command.Command.TheVariants.{Compile, Exec, Explain, Judge}
+use Rattle.sc_policy.specs.Prelude.{IsPolicyRead}
+use Rattle.sc_policy.specs.declared.read.PolicyRead.{PolicyRead}
 use Rattle.sc_top_words.specs.declared.command.RunOptions.{RunOptions}
 use Rattle.std.specs.Prelude.{◌≡◌, ◌≤◌, ◌↔◌, ℕ, Bool, false, true, List, ◌++◌, length, None}
 
@@ -54,3 +56,20 @@ pub record ExplainsAs (options : RunOptions) (text bytes : List ℕ) : Type 0 wh
 abbrev pub CompiledImagesAreExplained : Type 0
 CompiledImagesAreExplained = (options : RunOptions) (text image : List ℕ) → length text ≤ most_compiled →
     IsOutput Compile text image → ExplainsAs options text (image ++ text)
+
+-- `judge` of a policy and a text, or of a policy, an image and a text
+abbrev pub judging : (with_image : Bool) → RunOptions → Command
+judging with_image options = Judge (record { run = options; image = with_image; trapped = false })
+
+-- these bytes are a policy, and nothing follows it
+pub record IsWholePolicy (bytes : List ℕ) : Type 0 where
+  pub read : PolicyRead
+  pub is : IsPolicyRead bytes read
+  pub whole : read.rest ≡ length bytes
+
+-- What `compile` writes is judged as the text is, by any policy.
+abbrev pub CompiledImagesAreJudged : Type 0
+CompiledImagesAreJudged = (options : RunOptions) (policy text image : List ℕ) → IsWholePolicy policy →
+    length text ≤ most_compiled → IsOutput Compile text image → (out : List ℕ) →
+    IsOutput (judging true options) (policy ++ (image ++ text)) out ↔
+    IsOutput (judging false options) (policy ++ text) out

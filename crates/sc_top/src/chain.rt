@@ -29,12 +29,7 @@ pub(crate) fn explain(
     ensures cause { IfErr result (IsOutputCause (Explain options.now) bytes.now) }
 {
     let found = accounted(alloc, &options.run, options.image, bytes)?;
-    Ok(account(
-        alloc,
-        options,
-        &found.source,
-        &found.explanation,
-    )?)
+    Ok(account(alloc, options, &found.source, &found.explanation)?)
 }
 
 // The report, or the text of the chain after `show` links.

@@ -2,6 +2,7 @@
 
 ghost use Rattle.sc_base.specs.Prelude.{most_image};
 ghost use Rattle.sc_top.specs.Prelude.{AccountsRunAsExec, Command, CompiledImagesAreExplained, CompiledImagesRun};
+ghost use Rattle.sc_top.specs.Prelude.{CompiledImagesAreJudged};
 ghost use Rattle.sc_top.specs.Prelude.{ExecutionsAreApart, ExplainedAreTagged, IsAnswer, IsOutput};
 ghost use Rattle.sc_top.specs.Prelude.{LinkedImagesAreExplained, LinkingIsCompiling, SameAnswer};
 ghost use Rattle.sc_top.specs.Prelude.{SameTextsFit, SectionsAreApart, TagsRunAsExec};
@@ -74,6 +75,15 @@ pub fn compiled_images_are_explained()
     ensures { CompiledImagesAreExplained }
 {
     one_program();
+    own_images_are_explained();
+}
+
+/// So it is judged as the text is, with any policy before both.
+pub fn compiled_images_are_judged()
+    ensures { CompiledImagesAreJudged }
+{
+    one_program();
+    one_policy();
     own_images_are_explained();
 }
 
