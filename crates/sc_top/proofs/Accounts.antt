@@ -31,7 +31,9 @@ use Rattle.std.specs.Prelude.{Bool}
 use Rattle.std.proofs.Math.Seq.{drop-append_seam}
 use Rattle.sc_top_words.specs.declared.command.RunOptions.{RunOptions}
 use Rattle.sc_top.proofs.Common.{AreImageAndText, IsJudged, IsPolicyRead, JudgeOptions, PolicyRead, take_all}
-use Rattle.sc_top.specs.Accounts.{CompiledImagesAreJudged, IsWholePolicy}
+use Rattle.sc_top.specs.Accounts.{CompiledImagesAreJudged, IsWholePolicy, JudgmentsRunAsExec}
+use Rattle.sc_monitor.specs.Prelude.{verdict}
+use Rattle.sc_report.specs.Verdict.{verdict_text}
 
 -- THE IMAGE BEFORE THE TEXT
 
@@ -364,3 +366,29 @@ compiled_images_are_judged one_program one_policy law options policy text image 
   to_text_judged one_program one_policy law options policy text image whole short is out,
   from_text_judged one_program one_policy law options policy text image whole short is out,
 )
+
+-- what `exec` writes begins the report, also that of `judge`
+pub judgments_run_as_exec : ((bytes : List ℕ) (one other : PolicyRead) → IsPolicyRead bytes one →
+    IsPolicyRead bytes other → one ≡ other) → JudgmentsRunAsExec
+judgments_run_as_exec one_policy options policy image text out its whole is executed =
+    let same_read = one_policy (policy ++ (image ++ text)) whole.read is.read (read_again policy whole (image ++ text))
+    is.is in
+    let after = subst (λ (r : PolicyRead). drop r.rest (policy ++ (image ++ text)) ≡ image ++ text) same_read
+    (left policy whole (image ++ text)) in
+    let found = account_at true options (drop is.read.rest (policy ++ (image ++ text))) (image ++ text) after is.found in
+    let same = (one_front (image ++ text) found.are.front (front_of image text executed.read)).0 in
+    let explained =
+    subst (λ i. IsExplainedOn i found.has.source options found.has.explanation) (found.are.is ∙ ap Some same)
+    found.has.explained in
+    let names = is.found.has.source.program.interfaces in
+    let verdict_line = verdict_text is.read.policy.states names (verdict is.read.policy names is.found.has.explanation) in
+    record {
+      more = rest found.has.source executed.read.image options found.has.explanation explained ++ verdict_line;
+      is = is.written ∙
+          (ap (λ lines. lines ++ verdict_line)
+          (begins found.has.source executed.read.image options found.has.explanation explained) ∙
+          (append_assoc (machine_text (image_interfaces executed.read.image) options executed.read.image)
+          (rest found.has.source executed.read.image options found.has.explanation explained) verdict_line ∙
+          ap (λ lines. lines ++ (rest found.has.source executed.read.image options found.has.explanation explained ++
+          verdict_line)) (sym executed.written)));
+    }

@@ -73,3 +73,9 @@ CompiledImagesAreJudged = (options : RunOptions) (policy text image : List ℕ) 
     length text ≤ most_compiled → IsOutput Compile text image → (out : List ℕ) →
     IsOutput (judging true options) (policy ++ (image ++ text)) out ↔
     IsOutput (judging false options) (policy ++ text) out
+
+-- What `exec` writes for an image begins what `judge` writes for a policy, this image and a text.
+abbrev pub JudgmentsRunAsExec : Type 0
+JudgmentsRunAsExec = (options : RunOptions) (policy image text out its : List ℕ) → IsWholePolicy policy →
+    IsOutput (judging true options) (policy ++ (image ++ text)) out → IsOutput (Exec options) image its →
+    IsPrefix its out

@@ -38,7 +38,7 @@ pub use Rattle.sc_top.specs.Output.{IsOutput}
 pub use Rattle.sc_top.specs.Output.{IsSummary, IsTextOutput, account, compiles, machine_run, machine_text}
 pub use Rattle.sc_top.specs.Output.{report_text}
 pub use Rattle.sc_top.specs.Accounts.{AccountsRunAsExec, CompiledImagesAreExplained, CompiledImagesAreJudged}
-pub use Rattle.sc_top.specs.Accounts.{LinkedImagesAreExplained}
+pub use Rattle.sc_top.specs.Accounts.{JudgmentsRunAsExec, LinkedImagesAreExplained}
 pub use Rattle.sc_top.specs.Output.{meaning_asked, output}
 pub use Rattle.sc_top.specs.Status.{bytes_of, fixed_text, join_text, joined_text, kind_text, large_text, object_text}
 pub use Rattle.sc_top.specs.Status.{own_text, owner_text, phase_word}

@@ -2,7 +2,7 @@
 
 ghost use Rattle.sc_base.specs.Prelude.{most_image};
 ghost use Rattle.sc_top.specs.Prelude.{AccountsRunAsExec, Command, CompiledImagesAreExplained, CompiledImagesRun};
-ghost use Rattle.sc_top.specs.Prelude.{CompiledImagesAreJudged};
+ghost use Rattle.sc_top.specs.Prelude.{CompiledImagesAreJudged, JudgmentsRunAsExec};
 ghost use Rattle.sc_top.specs.Prelude.{ExecutionsAreApart, ExplainedAreTagged, IsAnswer, IsOutput};
 ghost use Rattle.sc_top.specs.Prelude.{LinkedImagesAreExplained, LinkingIsCompiling, SameAnswer};
 ghost use Rattle.sc_top.specs.Prelude.{SameTextsFit, SectionsAreApart, TagsRunAsExec};
@@ -85,6 +85,13 @@ pub fn compiled_images_are_judged()
     one_program();
     one_policy();
     own_images_are_explained();
+}
+
+/// What `exec` writes for an image begins what `judge` writes for a policy, this image and a text.
+pub fn judgments_run_as_exec()
+    ensures { JudgmentsRunAsExec }
+{
+    one_policy();
 }
 
 /// What `object` writes for all sections of a text is good input of `link`, which writes for it what `compile` writes
