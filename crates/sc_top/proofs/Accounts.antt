@@ -326,7 +326,8 @@ module _ (one_program : (text : List ℕ) (program other : ProgramTree) →
     read_of_other = subst (IsPolicyRead (policy ++ other)) same_read (read_again policy whole other)
 
     left_of : (bytes : List ℕ) → drop read.rest (policy ++ bytes) ≡ bytes
-    left_of bytes = subst (λ (r : PolicyRead). drop r.rest (policy ++ bytes) ≡ bytes) same_read (left policy whole bytes)
+    left_of bytes =
+        subst (λ (r : PolicyRead). drop r.rest (policy ++ bytes) ≡ bytes) same_read (left policy whole bytes)
 
   to_text_judged : (out : List ℕ) → IsJudged (judging_by true options) (policy ++ (image ++ text)) out →
       IsJudged (judging_by false options) (policy ++ text) out
@@ -375,13 +376,15 @@ judgments_run_as_exec one_policy options policy image text out its whole is exec
     is.is in
     let after = subst (λ (r : PolicyRead). drop r.rest (policy ++ (image ++ text)) ≡ image ++ text) same_read
     (left policy whole (image ++ text)) in
-    let found = account_at true options (drop is.read.rest (policy ++ (image ++ text))) (image ++ text) after is.found in
+    let found =
+    account_at true options (drop is.read.rest (policy ++ (image ++ text))) (image ++ text) after is.found in
     let same = (one_front (image ++ text) found.are.front (front_of image text executed.read)).0 in
     let explained =
     subst (λ i. IsExplainedOn i found.has.source options found.has.explanation) (found.are.is ∙ ap Some same)
     found.has.explained in
     let names = is.found.has.source.program.interfaces in
-    let verdict_line = verdict_text is.read.policy.states names (verdict is.read.policy names is.found.has.explanation) in
+    let verdict_line =
+    verdict_text is.read.policy.states names (verdict is.read.policy names is.found.has.explanation) in
     record {
       more = rest found.has.source executed.read.image options found.has.explanation explained ++ verdict_line;
       is = is.written ∙
