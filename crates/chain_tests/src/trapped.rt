@@ -108,12 +108,7 @@ int put(int v) {
 }
 ";
 
-fn explained(
-    alloc: Global,
-    text: &[u8],
-    steps: u32,
-    events: u32,
-) -> Result<Explanation, Fail> {
+fn explained(alloc: Global, text: &[u8], steps: u32, events: u32) -> Result<Explanation, Fail> {
     let source = SourceText::read(alloc, text)?;
     let explanation = explain(alloc, &source, &[], steps, events)?;
     Ok(explanation)
@@ -135,7 +130,7 @@ fn a_fault_after_the_last_event_has_its_line(rt: HostRuntime) -> Result<(), Fail
     let explanation = explained(rt.alloc(), NULL, STEPS, EVENTS)?;
     let origin = TrapOrigin::Blamed {
         cause: Cause::NullUse,
-        line: 8,
+        line: 9,
     };
     assert!(rt; explanation.links.len() == 0);
     assert!(rt; is_trapped(&explanation, 1, origin));
@@ -154,7 +149,7 @@ fn a_blame_comes_before_a_full_stack(rt: HostRuntime) -> Result<(), Fail> {
     let explanation = explained(rt.alloc(), BOTH, STEPS, EVENTS)?;
     let origin = TrapOrigin::Blamed {
         cause: Cause::NullUse,
-        line: 7,
+        line: 8,
     };
     assert!(rt; is_trapped(&explanation, 0, origin));
     Ok(())
@@ -165,7 +160,7 @@ fn who_traps_need_not_be_in_the_chain(rt: HostRuntime) -> Result<(), Fail> {
     let explanation = explained(rt.alloc(), CHAINED, STEPS, EVENTS)?;
     let origin = TrapOrigin::Blamed {
         cause: Cause::NullUse,
-        line: 5,
+        line: 6,
     };
     assert!(rt; explanation.links.len() == 1);
     let link = explanation.links.get(0).ok_or("no link")?;
@@ -203,7 +198,7 @@ fn the_last_step_is_the_trap(rt: HostRuntime) -> Result<(), Fail> {
     assert!(rt; 1 <= least && least < 400);
     let origin = TrapOrigin::Blamed {
         cause: Cause::NullUse,
-        line: 8,
+        line: 9,
     };
     let explanation = explained(rt.alloc(), NULL, least, EVENTS)?;
     assert!(rt; is_trapped(&explanation, 1, origin));
