@@ -1,5 +1,5 @@
-"""Behaviours of attacked sections as machine code: objects that do as a behaviour says, or with code from random numbers,
-which are linked with the objects of the other sections, and of whose runs `explain --image` accounts.
+"""Behaviours of attacked sections as machine code. Objects that do as a behaviour says, or that have random code, are
+linked with the objects of the other sections, and `explain --image` accounts for their runs.
 
 A behaviour may have "code": ["noise", SEED] puts random instructions between the calls, and ["random", SEED] random
 code in place of all. This file stands alone with those that it imports, since it is copied to other machines. Nothing
@@ -105,8 +105,8 @@ class ImagePlan(Plan):
         entries = self.entry_points()
         imported = [entries[parts[0]][function] for function, parts in self.faces[name].imports.items()
                     if parts[0] != "Env"]
-        number = self.data["names"].index(name)
-        return Code(random.Random(f"{seed}.{name}"), number, [list(each.values()) for each in entries.values()], imported)
+        every = [list(each.values()) for each in entries.values()]
+        return Code(random.Random(f"{seed}.{name}"), self.data["names"].index(name), every, imported)
 
     def object(self, name, own, behaviour):
         """The object of an attacked section."""
@@ -144,7 +144,8 @@ class ImagePlan(Plan):
         text = "".join(piece[0] for piece in self.data["marked" if is_marked else "plain"]).encode("latin-1")
         both = self.image(behaviour, is_marked) + text
         if command == "judge":
-            return self.ran(["judge", "--image", *words], self.data["policy"].encode("latin-1") + both).decode().splitlines()
+            policy = self.data["policy"].encode("latin-1")
+            return self.ran(["judge", "--image", *words], policy + both).decode().splitlines()
         lines = self.ran(["explain", "--image", *words], both).decode().splitlines()
         stop = next(at for at, line in enumerate(lines) if line.startswith("stop "))
         return self.blamed(lines, stop, words, both) if command == "meaning" else lines[:stop + 1]

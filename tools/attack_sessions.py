@@ -1,11 +1,12 @@
 #!/usr/bin/env python3
 """Tests tools/attack and tools/secret: `attack_sessions.py [--runs N] [--secomp PATH] [WORD]`, at the top.
 
-Each program of examples/attacked has a weakness, which must be found, and a mended twin, in which nothing must be found:
-in N runs by texts (2,000), and in a tenth of N by machine code, with --image. Then bad words and bad inputs get their answers, the same attack finds the
-same with and without GNU parallel and when it is started again, and the sessions of docs/ATTACK.md write what they
-show. With WORD, one of attacked, bad_uses, changes, agreement and sessions, only that test is run. What needs GNU
-parallel says that it didn't run where that isn't there. The last line counts; the status is 1 if one failed.
+Each program of examples/attacked has a weakness, which must be found, and a mended twin, in which nothing must be
+found: in N runs by texts (2,000), and in a tenth of N by machine code, with --image. Then bad words and bad inputs get
+their answers, the same attack finds the same with and without GNU parallel and when it is started again, and the
+sessions of docs/ATTACK.md write what they show. With WORD, one of attacked, bad_uses, changes, agreement and sessions,
+only that test is run. What needs GNU parallel says that it didn't run where that isn't there. The last line counts; the
+status is 1 if one failed.
 """
 import argparse
 import itertools
@@ -75,7 +76,8 @@ BAD = [
 ]
 UNUSED = "#pragma compartment Main\nint main(void) { return 0; }\n#pragma compartment Idle\nint idle;\n"
 LARGE = "#pragma compartment Main\n#pragma import Part part\nint part(void);\nint main(void) {\n  int a[9000];\n" \
-        "  a[0] = part();\n  return 0;\n}\n#pragma compartment Part\n#pragma export part\nint part(void) { return 1; }\n"
+        "  a[0] = part();\n  return 0;\n}\n#pragma compartment Part\n#pragma export part\n" \
+        "int part(void) { return 1; }\n"
 # A global's declaration, which is changed, the value, and the declaration with it.
 CHANGES = [
     ("int a;", "a", "5", "int a = 5;"),
@@ -143,7 +145,8 @@ def agreement(asked, folder):
     for way in ([], ["--image"]):
         words = ["tools/attack", "examples/messages.c", "Parser", *way, "--policy", KEY, "--runs=120", "--seed=7"]
         alone = run([*words, "--jobs=1", f"--results={folder}/same"], folder)
-        yield "again", "" if run([*words, "--jobs=1", f"--results={folder}/same"], folder) == alone else "again: differs"
+        again = run([*words, "--jobs=1", f"--results={folder}/same"], folder)
+        yield "again", "" if again == alone else f"again: {again}\nin place of\n{alone}"
         if not shutil.which("parallel"):
             print("side by side: wasn't tried: this takes GNU parallel (in Debian the package `parallel`)")
             return

@@ -1,5 +1,5 @@
-"""Machine code of RV32IM from numbers, for tools/attack and bench/given.py: instructions one by one, pieces of code that
-are drawn at random, and objects with them.
+"""Machine code of RV32IM from numbers, for tools/attack, tools/foreign and bench/given.py: instructions one by
+one, pieces of code that are drawn at random, and objects.
 
 This file stands alone, since it is copied to other machines. Nothing of it is proved.
 """
