@@ -76,6 +76,14 @@ class Image:
         return out
 
 
+def drawn_code(draw, image, number):
+    """The bytes of random code for a compartment, with a word at least at each of its entries."""
+    comp, start = image.comps[number], code_start(number)
+    imported = [image.comps[other]["entries"][index] for other, index in comp["imports"]]
+    code = Code(draw, number, [each["entries"] for each in image.comps], imported)
+    return written(code.words((max(comp["entries"], default=start) - start) // 4 + 1))
+
+
 class Case:
     """A text and an image of which some compartments are given, with what the program says of them."""
 
@@ -96,15 +104,11 @@ class Case:
         numbers = numbers or [self.draw.randrange(len(image.comps))]
         for number in numbers:
             comp = image.comps[number]
-            start = code_start(number)
-            last = max(comp["entries"], default=start)
-            imported = [image.comps[other]["entries"][index] for other, index in comp["imports"]]
-            code = Code(self.draw, number, [each["entries"] for each in image.comps], imported)
-            comp["code"] = written(code.words((last - start) // 4 + 1))
+            comp["code"] = drawn_code(self.draw, image, number)
             if self.draw.random() < 0.2:
                 comp["globals"] += bytes(4)
             if number == image.main:
-                image.entry = start + 4 * self.draw.randrange(len(comp["code"]) // 4)
+                image.entry = code_start(number) + 4 * self.draw.randrange(len(comp["code"]) // 4)
         return image, [image.comps[number]["name"] for number in numbers]
 
     def meaning(self, text):
