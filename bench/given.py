@@ -129,6 +129,14 @@ class Foreign:
         return "\n".join(made) + "\n"
 
 
+def drawn_code(draw, image, number):
+    """The bytes of random code for a compartment, with a word at least at each of its entries."""
+    comp, start = image.comps[number], code_start(number)
+    imported = [image.comps[other]["entries"][index] for other, index in comp["imports"]]
+    code = Code(draw, number, [each["entries"] for each in image.comps], imported)
+    return written(code.words((max(comp["entries"], default=start) - start) // 4 + 1))
+
+
 class Case:
     """A text and an image of which some compartments are given, with what the program says of them."""
 
@@ -163,17 +171,13 @@ class Case:
     def give(self, image, number):
         """Gives a compartment of an image code from random numbers."""
         comp = image.comps[number]
-        start = code_start(number)
-        last = max(comp["entries"], default=start)
-        imported = [image.comps[other]["entries"][index] for other, index in comp["imports"]]
-        code = Code(self.draw, number, [each["entries"] for each in image.comps], imported)
-        comp["code"] = written(code.words((last - start) // 4 + 1))
+        comp["code"] = drawn_code(self.draw, image, number)
         if self.draw.random() < 0.2:
             comp["globals"] += bytes(4)
         if image.version == 1 or self.draw.random() < 0.1:
             comp["head"][comp["flags"]] &= ~HEAP
         if number == image.main:
-            image.entry = start + 4 * self.draw.randrange(len(comp["code"]) // 4)
+            image.entry = code_start(number) + 4 * self.draw.randrange(len(comp["code"]) // 4)
 
     def written(self, data, *words):
         """The bytes that a command writes, none where it refuses."""

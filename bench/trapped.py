@@ -26,7 +26,7 @@ import sys
 from concurrent.futures import ThreadPoolExecutor
 
 sys.dont_write_bytecode = True
-from given import GIVEN, Code, CODE_START, Image, STRETCH
+from given import GIVEN, Image, code_start, drawn_code
 from seeds import arguments, keep
 
 STEPS = 1000000
@@ -111,11 +111,9 @@ class Case:
         image = Image(subprocess.run([self.program, "compile"], input=self.text.encode(), capture_output=True,
                                      check=True).stdout)
         number = self.draw.randrange(len(image.comps))
-        comp, start = image.comps[number], CODE_START + number * STRETCH
-        last = max(comp["entries"], default=start)
-        comp["code"] = Code(self.draw, image, number).words((last - start) // 4 + 1)
+        image.comps[number]["code"] = drawn_code(self.draw, image, number)
         if number == image.main:
-            image.entry = start
+            image.entry = code_start(number)
         self.image, self.words = image.written(), ["--image"]
 
     def explain(self, *words):
