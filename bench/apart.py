@@ -22,7 +22,7 @@ from concurrent.futures import ThreadPoolExecutor
 
 sys.dont_write_bytecode = True
 from chains import sections_of
-from given import CODE_START, STRETCH, Code, Image
+from given import Image, code_start, drawn_code
 from outsider_texts import CONSTANTS, Maker
 from seeds import arguments, keep
 
@@ -143,14 +143,12 @@ class Case:
         for number, comps in enumerate(zip(one.comps, other.comps)):
             if self.draw.random() < 0.5:
                 continue
-            start = CODE_START + number * STRETCH
-            count = (max(comps[0]["entries"], default=start) - start) // 4 + 1
-            codes = [Code(self.draw, one, number).words(count) for _ in comps]
+            codes = [drawn_code(self.draw, one, number) for _ in comps]
             inside = comps[0]["name"] in self.secret
             for image, comp, code in zip((one, other), comps, codes if inside else codes[:1] * 2):
                 comp["code"] = code
                 if number == image.main:
-                    image.entry = start + 4 * (self.draw.randrange(len(code) // 4) if inside else 0)
+                    image.entry = code_start(number) + 4 * (self.draw.randrange(len(code) // 4) if inside else 0)
         return one, other
 
     def check_runs(self, command, inputs):
