@@ -1,4 +1,4 @@
-// Main stores through null after its last event, so no event shows it. Run it with `explain --trapped`.
+// No event shows the fault of Main: run it with `explain --trapped`.
 #pragma compartment Main
 #pragma import Env output
 void output(int v);

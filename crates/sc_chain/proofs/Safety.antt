@@ -94,15 +94,15 @@ module _ (Q : List Event → Type 0) (program : ProgramTree) (inputs : List ℕ)
 pub robust_safety : RobustSafety
 robust_safety keeps source image inputs steps events explanation is allowed few all_keep =
     by explanation.links is.account.chain.chain where
-  by : (links : List Link) → IsChainFrom source inputs steps explanation.trace explanation.given 0 links →
-      KeptUpToBlame keeps source inputs steps explanation
-  by [] means = inl (whole_kept (λ t. keeps t ≡ true) means.text.program inputs steps explanation.trace
-      (λ turns events. all_keep explanation.trace means.text.program turns events allowed few means.text.accepted)
-      means.is_trace)
-  by (link ∷ links) chain = inr (
-    link,
-    chain.0,
-    begun_kept (λ t. keeps t ≡ true) chain.0.text.program inputs steps explanation.trace
-        (λ turns events. all_keep explanation.trace chain.0.text.program turns events allowed few chain.0.text.accepted)
-        link chain.0.blamed,
-  )
+      by : (links : List Link) → IsChainFrom source inputs steps explanation.trace explanation.given 0 links →
+          KeptUpToBlame keeps source inputs steps explanation
+      by [] means = inl (whole_kept (λ t. keeps t ≡ true) means.text.program inputs steps explanation.trace
+          (λ turns events. all_keep explanation.trace means.text.program turns events allowed few means.text.accepted)
+          means.is_trace)
+      by (link ∷ links) chain = inr (
+        link,
+        chain.0,
+        begun_kept (λ t. keeps t ≡ true) chain.0.text.program inputs steps explanation.trace
+            (λ turns events. all_keep explanation.trace chain.0.text.program turns events allowed few chain.0.text.accepted)
+            link chain.0.blamed,
+      )

@@ -105,7 +105,6 @@ module _ (table : ℕ → Assigned) (constants : ℕ → Option Constant) (sourc
   module _ (lives : Lives) (live : TempSet) (g : Temps) (c c1 c2 : Assignments) (split : Splits c c1 c2) (f h : Codes)
       (rest : (g' a b : Temps) (s : State) → At live g' a b → AddsOnly g c1 g' → Related lives g' c2 (f a s)
       (h b s)) where
-
     out : (at : TempSet) (a b : Temps) → Lands at g c1 a b → Lands at g c a b
     out at a b l = record { after = l.after; agree = l.agree; adds = λ t n. l.adds t (split t n).0 }
 

@@ -699,7 +699,7 @@ int put(int i, int v) {
 }
 ";
 
-const TRAPPED_TEXT: &[u8] = b"// Main stores through null after its last event, so no event shows it. Run it with `explain --trapped`.
+const TRAPPED_TEXT: &[u8] = b"// No event shows the fault of Main: run it with `explain --trapped`.
 #pragma compartment Main
 #pragma import Env output
 void output(int v);
