@@ -19,6 +19,16 @@ use Rattle.sc_core.specs.declared.expr.TypedKind.TheOpen as term
 use Rattle.sc_core.specs.declared.stmt.TypedStmtKind.TheOpen as layer
 use Rattle.sc_core.specs.declared.ty.Ty.TheVariants.{Int}
 use Rattle.sc_core.proofs.Layers.{expr_at, on_line, stmt_at, typed}
+use Rattle.sc_core.proofs.Plans.{Sheet, program, quick_run}
+use Rattle.sc_core.proofs.Programs.{lit, main_with, one_compartment}
+use Rattle.sc_core.proofs.Rows.{by_plan, depth_by_plan}
+use Rattle.sc_core.proofs.Shapes.{NoLine, WhileLine}
+use Rattle.sc_core.specs.Combinators.{FrameChange}
+use Rattle.sc_core.specs.Meaning.{deepest, meaning}
+use Rattle.sc_core.specs.declared.run.RunEnd.TheVariants.{TurnsOut}
+use Rattle.sc_emit_run_laws.specs.Prelude.{IsBlamed, IsTrap}
+use Rattle.sc_compile.specs.Stop.{TrapsWhereBlamed}
+use Rattle.std.proofs.Common.{subst}
 use Rattle.sc_image.specs.Machine.{after, run, run_by, stopped, stops_or}
 use Rattle.sc_image.specs.Prelude.{MachineRun, MachineState, Traps, start, step}
 use Rattle.sc_lower.specs.Branches.{branches, expr_branches, kind_branches, term_branches}
@@ -85,6 +95,40 @@ trap_is_refused : (image : ImageParts) (reason : TrapReason) → step image [] (
 trap_is_refused image reason traps =
     silent_is_refused image (ap (λ (s : MachineState). s.trace)
     (trapped image reason traps 2 (24 * program_nodes alone * suc 1)))
+
+-- `int main(void) { while (1) { } }`: it emits nothing, so an image that traps at once has the same trace
+abbrev looping : List Sheet
+looping =
+    record { structs = []; globals = []; plans = main_with [] (WhileLine 1 (lit 1) NoLine NoLine) 1 ∷ [] } ∷ []
+
+abbrev idle : ProgramTree
+idle = program one_compartment looping
+
+its_meaning : meaning idle [] 1 1 ≡ record { trace = []; end = TurnsOut }
+its_meaning = by_plan one_compartment looping [] 1 1
+
+abbrev frames : List FrameChange
+frames = (quick_run c_arith one_compartment looping [] 1).frames
+
+-- of one call, in which 76 bytes are enough
+little : (comp : ℕ) → deepest 1 comp 0 frames ≤ 1000
+little comp = by (0 == comp) where
+  by : (own : Bool) → (if own && true then max 0 (0 + 76) else 0) ≤ 1000
+  by true = leb-true (max 0 (0 + 76)) 1000 refl
+  by false = leb-true 0 1000 refl
+
+-- but a trap has to come of a blame or of a full stack
+silent_trap_is_refused : (image : ImageParts) (reason : TrapReason) → step image [] (start image) ≡ Traps reason →
+    TrapsWhereBlamed idle image → ⊥
+unfolding run_by stopped
+silent_trap_is_refused image reason traps is =
+    ⊎_elim
+    (λ blamed. subst (λ r. IsBlamed r.end) its_meaning blamed.0)
+    (λ full. too_deep _ full.deep (subst (λ n. n ≤ 1000)
+    (sym (depth_by_plan one_compartment looping [] 1 1 (machine image [] 1 1).state.active))
+    (little (machine image [] 1 1).state.active)))
+    (is [] 1 1 (All-nil IsWord) (subst IsTrap
+    (sym (ap (λ outcome. (after (start image).pc (start image) outcome (run image [] 1 0)).stop) traps)) tt))
 
 -- `int f(void) { return 8 / 2; }`: it has no `if`
 abbrev quotient : TypedExpr
