@@ -152,7 +152,8 @@ module _ (source : SourceParts) (given : List ℕ) (inputs : List ℕ) (steps : 
           link.comp link.cause link.line (ap (λ r. r.end) (sym at.same) ∙ next.blamed) in
           record {
             rest = rest;
-            whole = subst (λ blames. IsBlameChain run_of trace (is_listed given) blames) (ap (λ b. map blame_of links ++ b ∷ rest) is
+            whole = subst (λ blames. IsBlameChain run_of trace (is_listed given) blames)
+                (ap (λ b. map blame_of links ++ b ∷ rest) is
                 ∙
                 sym (one_more link rest)) whole;
             few = subst (λ blames. length blames ≤ most_links) (ap (λ b. map blame_of links ++ b ∷ rest) is ∙
@@ -174,7 +175,8 @@ module _ (source : SourceParts) (given : List ℕ) (inputs : List ℕ) (steps : 
           IsRising at.least (length trace) rest → IsFound links
       by [] whole few is_trace rising =
           record {
-            chain = subst (λ blames. IsBlameChain run_of trace (is_listed given) blames) (append-nil (map blame_of links)) whole;
+            chain = subst (λ blames. IsBlameChain run_of trace (is_listed given) blames)
+                (append-nil (map blame_of links)) whole;
             few = omega (arith, few, length-append (map blame_of links) [], length-map links blame_of);
             texts = at.texts;
           }

@@ -1,6 +1,7 @@
 -- The chain of a trace as a chain of texts: each set's text is accepted, and means what the set's scripts say.
 use Rattle.sc_chain.proofs.Common.{Accepts, All, All-append, All-push, AreFresh, Bool, Event, HasProgram, Includes}
-use Rattle.sc_chain.proofs.Common.{IsChain, IsChainFrom, IsChainWith, IsRising, IsSource, Link, List, MeansTrace, ProgramTree}
+use Rattle.sc_chain.proofs.Common.{IsChain, IsChainFrom, IsChainWith, IsRising, IsSource, Link, List, MeansTrace}
+use Rattle.sc_chain.proofs.Common.{ProgramTree}
 use Rattle.sc_chain.proofs.Common.{CompSet}
 use Rattle.sc_chain.proofs.Common.{SourceParts, SourceRun, [], is_listed, ap, arith, blamed_are_there, c_arith}
 use Rattle.sc_chain.proofs.Common.{chain_is_least, chains_rise, concat, eqb-true, false, length, map}

@@ -62,8 +62,8 @@ module _ (Q : List Event → Type 0) (program : ProgramTree) (inputs : List ℕ)
   -- a meaning that is all of the trace
   whole_kept : (meaning program inputs steps (length trace)).trace ≡ trace → Q trace
   whole_kept is = by (keeps steps (length trace)) where
-    by : Q (meaning program inputs steps (length trace)).trace ⊎ IsBlamed (meaning program inputs steps (length trace)).end
-        → Q trace
+    by : Q (meaning program inputs steps (length trace)).trace ⊎
+        IsBlamed (meaning program inputs steps (length trace)).end → Q trace
     by (inl kept) = subst Q is kept
     by (inr blamed) =
         let early = blamed_early (length trace) behaviour blamed in
@@ -103,6 +103,7 @@ robust_safety keeps source image inputs steps events explanation is allowed few 
         link,
         chain.0,
         begun_kept (λ t. keeps t ≡ true) chain.0.text.program inputs steps explanation.trace
-            (λ turns events. all_keep explanation.trace chain.0.text.program turns events allowed few chain.0.text.accepted)
+            (λ turns events. all_keep explanation.trace chain.0.text.program turns events allowed few
+            chain.0.text.accepted)
             link chain.0.blamed,
       )

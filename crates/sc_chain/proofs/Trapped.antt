@@ -1,8 +1,10 @@
 -- Who stands where a trap stopped the machine, why, and that nobody else can be named.
 use Rattle.sc_chain.proofs.Common.{Accepts, All, All-append, All-from_recursion, AllByRecursion, Blamed, Bool, Cause}
 use Rattle.sc_chain.proofs.Common.{CompSet, EmitsOrIsBlamed, Event, HasWords, ImageParts, Includes, IsChainFrom}
-use Rattle.sc_chain.proofs.Common.{IsChainWith, IsRobust, IsScripted, IsSource, IsWord, Link, List, MachineRun, MeansTrace}
-use Rattle.sc_chain.proofs.Common.{None, Option, ProgramTree, Some, SourceParts, SourceRun, Stop, [], ap, ap₂, arith, cases_lt}
+use Rattle.sc_chain.proofs.Common.{IsChainWith, IsRobust, IsScripted, IsSource, IsWord, Link, List, MachineRun}
+use Rattle.sc_chain.proofs.Common.{MeansTrace}
+use Rattle.sc_chain.proofs.Common.{None, Option, ProgramTree, Some, SourceParts, SourceRun, Stop, [], ap, ap₂, arith}
+use Rattle.sc_chain.proofs.Common.{cases_lt}
 use Rattle.sc_chain.proofs.Common.{c_arith, eq-eqb, false, is_listed, legal, length, machine, map, meaning, recomposed}
 use Rattle.sc_chain.proofs.Common.{recursion_from_All, refl, scripted_meaning, subst, suc, sym, true, ℕ, ⊎_elim, ◌++◌}
 use Rattle.sc_chain.proofs.Common.{◌<◌, ◌==◌, ◌||◌, ◌∙◌, ◌∷◌, ◌≡◌, ◌≤◌}
@@ -18,7 +20,8 @@ use Rattle.sc_core.specs.declared.run.RunEnd.TheVariants as ends
 use Rattle.sc_core_laws.proofs.ProgramLaws.{more_goes_on}
 use Rattle.sc_core_laws.specs.Prelude.{IsSubset}
 use Rattle.sc_core_laws.specs.Ends.{IsFinal}
-use Rattle.sc_chain.specs.Prelude.{IsObserved, IsTrappedOf, IsTrappedSo, active_in, if_trap, performing_comps, trapped_in}
+use Rattle.sc_chain.specs.Prelude.{IsObserved, IsTrappedOf, IsTrappedSo, active_in, if_trap, performing_comps}
+use Rattle.sc_chain.specs.Prelude.{trapped_in}
 use Rattle.sc_chain.specs.declared.account.MachineRun.{MachineRun as Observed}
 use Rattle.sc_chain.proofs.Recomposed.{is_scripted, within_all}
 

@@ -87,7 +87,8 @@ pub record IsAccountOf (source : SourceParts) (image : ImageParts) (comps : List
   pub trace : explanation.trace ≡ (machine image inputs steps events).state.trace
   pub stop : explanation.stop ≡ (machine image inputs steps events).stop
   pub given : explanation.given ≡ comps
-  pub trapped : IsTrappedOf source image inputs steps events (performing_comps comps explanation.links) explanation.trapped
+  pub trapped : IsTrappedOf source image inputs steps events (performing_comps comps explanation.links)
+      explanation.trapped
   pub chain : IsChainWith source inputs steps explanation.trace comps explanation.links
   -- where the program's text isn't too long to be compiled, no text in which compartments perform is too long to be
   -- read

@@ -1,7 +1,8 @@
 -- What is compiled does what its program means.
 use Rattle.sc_compile.proofs.Common.{AgreesInDepth, All, AreEmitted, AreNamed, Arith, EachEmits}
 use Rattle.sc_compile.proofs.Common.{ForwardSimulation, GlobalsAreWords, ImageParts, IsBuilt, IsCompiled, IsFunction}
-use Rattle.sc_compile.proofs.Common.{IsLinkable, IsLinked, IsRobust, IsWellTyped, IsWhole, IsWord, List, None, ProgramTree, Run}
+use Rattle.sc_compile.proofs.Common.{IsLinkable, IsLinked, IsRobust, IsWellTyped, IsWhole, IsWord, List, None}
+use Rattle.sc_compile.proofs.Common.{ProgramTree, Run}
 use Rattle.sc_compile.proofs.Common.{SimulatesRun, addresses_at, all_codes, arith, built_image, c_arith, code_run}
 use Rattle.sc_compile.proofs.Common.{outcomes_simulate, program_nodes, program_tac, refl, run_of, same}
 use Rattle.sc_compile.proofs.Common.{same_run, subst, suc, too_large, wrapped_code_agrees, wrapping, ℕ, ◌*◌, ◌≡◌}

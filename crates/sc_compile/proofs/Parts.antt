@@ -2,9 +2,11 @@
 -- enters at the main section's own code.
 use Rattle.sc_compile.proofs.Common.{Addresses, CodeTree, ImageParts, Interface, Interfaces, List, None, Option}
 use Rattle.sc_compile.proofs.Common.{ProgramTree, Proto, Some, TacSection, TypedFunction, TypedSection, [], all_codes}
-use Rattle.sc_compile.proofs.Common.{ap, ap₂, built_image, bytes_eq, codes_at, comp_at, cond, entry_address, entry_jumps}
+use Rattle.sc_compile.proofs.Common.{ap, ap₂, built_image, bytes_eq, codes_at, comp_at, cond, entry_address}
+use Rattle.sc_compile.proofs.Common.{entry_jumps}
 use Rattle.sc_compile.proofs.Common.{function_code, functions_or_none, if◌then◌else◌, length, length-map, linked_codes}
-use Rattle.sc_compile.proofs.Common.{main_name, map, nat_lt, not, option_map, part_at, place_named, pos, program_tac, refl}
+use Rattle.sc_compile.proofs.Common.{main_name, map, nat_lt, not, option_map, part_at, place_named, pos, program_tac}
+use Rattle.sc_compile.proofs.Common.{refl}
 use Rattle.sc_compile.proofs.Common.{section_at, section_or_none, section_tac, slice_get, suc, sym, too_large, ℕ, ◌++◌}
 use Rattle.sc_compile.proofs.Common.{◌+◌, ◌-ℤ◌, ◌∙◌, ◌∷◌, ◌≡◌}
 use Rattle.std.specs.Prelude.{Ok}

@@ -92,7 +92,8 @@ accounts_run_as_exec options image text out its is executed =
 -- A READ IMAGE AND A TEXT
 
 -- what is written of an image is its bytes
-abbrev written_image : (image : ImageParts) (bytes : List ℕ) → IsWellFormed image → bytes ≡ image_bytes image → IsImage bytes
+abbrev written_image : (image : ImageParts) (bytes : List ℕ) → IsWellFormed image → bytes ≡ image_bytes image →
+    IsImage bytes
 written_image image bytes formed written = record {
   image = image;
   well_formed = formed;
@@ -264,8 +265,8 @@ module _ (one_program : (text : List ℕ) (program other : ProgramTree) →
   explains_so = record {
     within = is_within one_program options (λ comp. false) text bytes short is.program is.accepted is.image has.compiled
         read own;
-    good = is_good one_program options (λ comp. false) text bytes short is.program is.accepted is.image has.compiled read
-        own;
+    good = is_good one_program options (λ comp. false) text bytes short is.program is.accepted is.image has.compiled
+        read own;
     same = λ out. (
       (λ it. record { found = to_text it.found; written = it.written }),
       (λ it. record { found = from_text it.found; written = it.written }),

@@ -1,7 +1,8 @@
 -- What `run` and `exec` write for texts and images that are the same outside a set of compartments: the runs are apart.
 use Rattle.sc_top.proofs.Common.{Accepts, Bool, BytesNameOneImage, HasImage, ImageParts, IsExecuted}
 use Rattle.sc_top.proofs.Common.{IsImage, IsTextOutput, IsWellFormed, List, ProgramTree, Run, RunOptions, ap}
-use Rattle.sc_top.proofs.Common.{image_interfaces, machine_text, map, option_map, refl, subst, sym, word_of, ℕ, ◌∙◌, ◌≡◌}
+use Rattle.sc_top.proofs.Common.{image_interfaces, machine_text, map, option_map, refl, subst, sym, word_of, ℕ, ◌∙◌}
+use Rattle.sc_top.proofs.Common.{◌≡◌}
 use Rattle.sc_image.proofs.ApartLaws.{only_set_delays, same_agree, stops_apart, traces_apart}
 use Rattle.sc_image.proofs.ApartRuns.{runs_apart}
 use Rattle.sc_image.specs.Prelude.{AgreeBut, SameBut}

@@ -1,5 +1,6 @@
 -- The texts of a chain: what each of them means.
-use Rattle.sc_top.proofs.Common.{Accepts, Bool, Explanation, IsChainFrom, Link, List, None, Option, Some, SourceParts, []}
+use Rattle.sc_top.proofs.Common.{Accepts, Bool, Explanation, IsChainFrom, Link, List, None, Option, Some, SourceParts}
+use Rattle.sc_top.proofs.Common.{[]}
 use Rattle.sc_top.proofs.Common.{comp_of, false, is_listed, length, map, meaning, none-some, or-false}
 use Rattle.sc_top.proofs.Common.{recomposed, refl, slice_get, subst, suc, sym, take, true, zero, ℕ, ◌++◌, ◌==◌, ◌||◌}
 use Rattle.sc_top.proofs.Common.{◌∙◌, ◌∷◌, ◌≡◌}
@@ -62,7 +63,8 @@ module _ (source : SourceParts) (inputs : List ℕ) (steps : ℕ) (trace : List 
         subst (IsBlamedSo chain.0.text.program inputs steps trace) same chain.0.blamed;
     means = λ is. absurd (none-some link (sym is));
   }
-  means_up_to comps least (link ∷ links) chain (suc n) = means_up_to (link.comp ∷ comps) (suc link.after) links chain.1 n
+  means_up_to comps least (link ∷ links) chain (suc n) =
+      means_up_to (link.comp ∷ comps) (suc link.after) links chain.1 n
 
 -- each text of the chain
 pub chain_text : (source : SourceParts) (inputs : List ℕ) (steps : ℕ) (explanation : Explanation) →

@@ -1,6 +1,7 @@
 -- Bytes begin with one image at most, and then there is no cause for which they begin with none.
 use Rattle.sc_top.proofs.Common.{BeginWithImage, List, Ok, Some, ap, cause_number, drop}
-use Rattle.sc_top.proofs.Common.{none-some, option_map, part_cause_in, read_cause, subst, sym, take, take-append-drop, ℕ}
+use Rattle.sc_top.proofs.Common.{none-some, option_map, part_cause_in, read_cause, subst, sym, take, take-append-drop}
+use Rattle.sc_top.proofs.Common.{ℕ}
 use Rattle.sc_top.proofs.Common.{◌∙◌, ◌≡◌}
 use Rattle.sc_image.proofs.Whole.{begin_with_one, is_begun_again}
 unfoldable use Rattle.sc_image.specs.Prelude.{image_at}

@@ -1,4 +1,5 @@
-use Rattle.sc_top.proofs.Common.{Accepts, BeginWithImage, IsAccountFor, IsLimited, List, drop, length, refl, rules, subst}
+use Rattle.sc_top.proofs.Common.{Accepts, BeginWithImage, IsAccountFor, IsLimited, List, drop, length, refl, rules}
+use Rattle.sc_top.proofs.Common.{subst}
 use Rattle.sc_top.proofs.Common.{sym, take_rest, ℕ, ◌∙◌, ◌≤◌}
 use Rattle.sc_top.proofs.Chains.{account_of_image}
 use Rattle.sc_top.proofs.Outputs.{any_another, any_limited}

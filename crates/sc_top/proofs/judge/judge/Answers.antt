@@ -1,4 +1,5 @@
-use Rattle.sc_top.proofs.Common.{IsAccountFor, IsCauseIn, IsWellTyped, Judge, List, accounted_intake, arith, drop, length}
+use Rattle.sc_top.proofs.Common.{IsAccountFor, IsCauseIn, IsWellTyped, Judge, List, accounted_intake, arith, drop}
+use Rattle.sc_top.proofs.Common.{length}
 use Rattle.sc_top.proofs.Common.{length-drop, refl, rules, subst, sym, take_rest, ℕ, ◌≤◌}
 use Rattle.sc_top.proofs.Committed.{judged_by}
 use Rattle.sc_top.proofs.Outputs.{judge_cause}
