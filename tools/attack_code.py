@@ -62,9 +62,10 @@ class Fewer:
             self.code[name] = [Instruction(place, word & 0xffffffff) for place, word in enumerate(words)]
 
     def end_of(self, behaviour):
-        """After a fault: in whom the machine traps, if it does."""
-        last = TRAP.fullmatch(self.plan.report("run", behaviour)[-1]) if self.kind == "fault" else None
-        return compartment_at(int(last[2], 16), self.plan.data["names"]) if last else None
+        """How the run ends, and of a trap in whom."""
+        last = self.plan.report("run", behaviour)[-1]
+        trap = TRAP.fullmatch(last)
+        return (trap[1], compartment_at(int(trap[2], 16), self.plan.data["names"])) if trap else last
 
     def without(self, name, start, stop):
         """Leaves some instructions out, if the rest shows the same after the same events, and ends so."""

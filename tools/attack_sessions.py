@@ -3,10 +3,10 @@
 
 Each program of examples/attacked has a weakness, which must be found, and a mended twin, in which nothing must be
 found: in N runs by texts (2,000), and in a tenth of N by machine code, with --image. Then bad words and bad inputs get
-their answers, code that is made smaller has its jumps right, the same attack finds the same with and without GNU parallel
-and when it is started again, and the sessions of docs/ATTACK.md write what they show. With WORD, one of attacked,
-bad_uses, placement, changes, agreement and sessions, only that test is run. What needs GNU parallel says that it didn't
-run where that isn't there. The last line counts; the status is 1 if one failed.
+their answers, code that is made smaller has its jumps right, the same attack finds the same with and without GNU
+parallel and when it is started again, and the sessions of docs/ATTACK.md write what they show. With WORD, one of
+attacked, bad_uses, placement, changes, agreement and sessions, only that test is run. What needs GNU parallel says that
+it didn't run where that isn't there. The last line counts; the status is 1 if one failed.
 """
 import argparse
 import itertools
