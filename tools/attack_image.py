@@ -2,8 +2,8 @@
 linked with the objects of the other sections, and `explain --image` accounts for their runs.
 
 A behaviour may have "code": ["noise", SEED] puts random instructions between the calls, and ["random", SEED] random
-code in place of all. This file stands alone with those that it imports, since it is copied to other machines. Nothing
-of it is proved.
+code in place of all. Its "words" are the code itself, with whether there is a heap, by sections. This file stands alone
+with those that it imports, since it is copied to other machines. Nothing of it is proved.
 """
 import base64
 import random
@@ -16,6 +16,7 @@ from machine_code import (A0, A7, ECALL, INPUT, OUTPUT, RA, RETURN, SP, T0, T1, 
                           call_at, code_start, globals_start, jump, load, load_word, object_of, store, written)
 
 LINK = re.compile(r"replace (\w+) after (\d+) (\w+) line (\d+)")
+TRAPPED = re.compile(r"trapped (\w+) (\w+) line (\d+)")
 FRAME, KEPT_RA, KEPT_FIRST, KEPT_AT, KEPT_ROUND = 32, 0, 4, 8, 12
 AT, RESULT = 0, 4
 PLACES = {"argument": KEPT_FIRST, "round": KEPT_ROUND}
@@ -108,17 +109,24 @@ class ImagePlan(Plan):
         every = [list(each.values()) for each in entries.values()]
         return Code(random.Random(f"{seed}.{name}"), self.data["names"].index(name), every, imported)
 
-    def object(self, name, own, behaviour):
-        """The object of an attacked section."""
+    def code_of(self, name, behaviour):
+        """The code of an attacked section, and whether it has a heap."""
+        if "words" in behaviour:
+            return behaviour["words"][name]
         kind, seed = behaviour.get("code") or ("", 0)
-        face, number, count = self.faces[name], self.data["names"].index(name), len(self.faces[name].exports)
+        face, number = self.faces[name], self.data["names"].index(name)
         source = self.random_code(name, seed) if kind else None
         if kind == "random":
-            words = source.words(count + 1)
+            words = source.words(len(face.exports) + 1)
         else:
             part = behaviour["parts"][name]
             words = Assembler(number, face, part, self.entry_points(), source if kind == "noise" else None).code()
-        has_heap = bool(kind) and source.draw.random() < 0.5
+        return words, bool(kind) and source.draw.random() < 0.5
+
+    def object(self, name, own, behaviour):
+        """The object of an attacked section."""
+        words, has_heap = self.code_of(name, behaviour)
+        face, count = self.faces[name], len(self.faces[name].exports)
         return object_of(own, has_heap, written(words), 4 * count if face.main else 0, bytes(GLOBALS))
 
     def image(self, behaviour, is_marked=False):
@@ -146,24 +154,20 @@ class ImagePlan(Plan):
         if command == "judge":
             policy = self.data["policy"].encode("latin-1")
             return self.ran(["judge", "--image", *words], policy + both).decode().splitlines()
-        lines = self.ran(["explain", "--image", *words], both).decode().splitlines()
+        lines = self.ran(["explain", "--image", "--trapped", *words], both).decode().splitlines()
         stop = next(at for at, line in enumerate(lines) if line.startswith("stop "))
-        return self.blamed(lines, stop, words, both) if command == "meaning" else lines[:stop + 1]
+        return self.blamed(lines, stop) if command == "meaning" else lines[:stop + 1]
 
-    def blamed(self, lines, stop, words, both):
+    @staticmethod
+    def blamed(lines, stop):
         """The events up to the first blame of a section that isn't attacked, and this blame, or all."""
         links = [parts for line in lines[stop:] if (parts := LINK.fullmatch(line))]
         if links:
             name, after, cause, line = links[0].groups()
             return lines[:int(after)] + [f"stop blamed {name} {cause} {line}"]
-        if not lines[stop].startswith("stop trap"):
-            return lines[:stop + 1]
-        # the meaning of the text in which the attacked sections do what they did says whether one is blamed there
-        text = self.ran(["explain", "--image", "--show=0", *words], both)
-        given = [word for word in words if word.startswith("--in=")]
-        events = f"--events={min(stop + 1, 4096)}"
-        said = self.ran(["meaning", "--turns=1000000", events, *given], text).decode().splitlines()
-        return said if said[-1].startswith("stop blamed") else lines[:stop + 1]
+        # the reason of a trap where no text was replaced before it
+        trapped = [parts for line in lines[stop:] if (parts := TRAPPED.fullmatch(line))]
+        return lines[:stop] + [f"stop blamed {' '.join(trapped[0].groups())}"] if trapped else lines[:stop + 1]
 
 
 def plan_of(data):

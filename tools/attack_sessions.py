@@ -3,19 +3,22 @@
 
 Each program of examples/attacked has a weakness, which must be found, and a mended twin, in which nothing must be
 found: in N runs by texts (2,000), and in a tenth of N by machine code, with --image. Then bad words and bad inputs get
-their answers, the same attack finds the same with and without GNU parallel and when it is started again, and the
-sessions of docs/ATTACK.md write what they show. With WORD, one of attacked, bad_uses, changes, agreement and sessions,
-only that test is run. What needs GNU parallel says that it didn't run where that isn't there. The last line counts; the
-status is 1 if one failed.
+their answers, code that is made smaller has its jumps right, the same attack finds the same with and without GNU
+parallel and when it is started again, and the sessions of docs/ATTACK.md write what they show. With WORD, one of
+attacked, bad_uses, placement, changes, agreement and sessions, only that test is run. What needs GNU parallel says that
+it didn't run where that isn't there. The last line counts; the status is 1 if one failed.
 """
 import argparse
 import itertools
 import os
 import re
 import shutil
+import struct
 import subprocess
 import tempfile
 
+from attack_code import Instruction, placed
+from machine_code import RETURN, head_length, jump
 from sections import TOP, commands, count, program
 
 PAGE = "docs/ATTACK.md"
@@ -127,6 +130,22 @@ def bad_uses(asked, folder):
         yield f"closed: {line}", err
 
 
+def placement(_, folder):
+    """Code from which nothing is left out stays as it is, and a jump over what is left out goes to what follows it."""
+    for name, section, _ in WEAK:
+        with open(f"{TOP}/examples/attacked/{name}.c", "rb") as it:
+            data = subprocess.run([os.environ["SECOMP"], "object", "--section", section], stdin=it, cwd=folder,
+                                  capture_output=True, check=False).stdout
+        at = head_length(data) + 1
+        code = data[at + 4:at + 4 + int.from_bytes(data[at:at + 4], "little")]
+        words = list(struct.unpack(f"<{len(code) // 4}I", code))
+        same = placed([Instruction(place, word) for place, word in enumerate(words)], 0)
+        yield f"placement of {name}", "" if same == words and words else f"{name}: other code"
+    over = [Instruction(place, word) for place, word in enumerate([jump(12), 0x13, 0x13, RETURN])]
+    cut = placed(over[:1] + over[2:], 5)
+    yield "placement", "" if cut == [jump(8), 0x13, RETURN, 0, 0] else f"placement: {cut}"
+
+
 def changes(_, folder):
     """What tools/secret changes in a declaration."""
     maker = "import sys; sys.path.insert(0, 'tools')\nfrom importlib.machinery import SourceFileLoader\n" \
@@ -168,7 +187,7 @@ def sessions(asked, folder):
 
 
 def answers(asked, folder):
-    for test in (attacked, bad_uses, changes, agreement, sessions):
+    for test in (attacked, bad_uses, placement, changes, agreement, sessions):
         if asked.word in test.__name__ or not asked.word:
             for name, answer in test(asked, folder):
                 yield answer and f"{name} failed: {answer}"

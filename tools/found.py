@@ -54,9 +54,10 @@ def ended_early(run, words):
     """Why a run ends early that the source isn't blamed for, in a sentence."""
     if not run.stop.startswith("stop trap"):
         return f"the run doesn't end: {advice(run.stop, words, len(run.events))}"
-    if run.links:
-        return "the machine stops after the events that the chain accounts for"
-    return "the machine stops where the source is blamed for nothing: a stack is full, as by a recursion without end"
+    name, reason = run.unblamed
+    if reason == "replaced":
+        return f"the machine stops in {name}, after the events that the chain accounts for"
+    return f"the machine stops where {name} is blamed for nothing: its stack is full, as by a recursion without end"
 
 
 def meant(verdict):

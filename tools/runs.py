@@ -9,6 +9,7 @@ from sections import section_of, secomp
 EVENT = re.compile(r"(call|ret|in|out|end) ")
 LINK = re.compile(r"replace (\w+) after (\d+) (\w+) line (?P<line>\d+)")
 TRAPPED = re.compile(r"trapped (\w+) (\w+) line (?P<line>\d+)")
+UNBLAMED = re.compile(r"trapped (\w+) (stack|replaced)")
 BLAME = re.compile(r"stop blamed (\w+) (\w+) (\d+)")
 VERDICT = re.compile(r"verdict (?:holds (\w+)|violated after (\d+) by (\w+) rule (\d+) (\w+))")
 
@@ -39,11 +40,13 @@ class Verdict:
 
 
 class Run:
-    """A run: its input, its events, how it stops, the chain, the verdicts, and where the source is blamed at a trap."""
+    """A run: its input, its events, how it stops, the chain, the verdicts, and of a trap where the source is blamed, or
+    in whom and why it isn't."""
 
     def __init__(self, name, values):
         self.name, self.values = name, values
-        self.events, self.stop, self.links, self.verdicts, self.blame = [], "", [], [], None
+        self.events, self.stop, self.links, self.verdicts = [], "", [], []
+        self.blame, self.unblamed = None, ()
 
     def take(self, lines, policy):
         """Takes what `explain` or `judge` wrote; the same lines again where another policy was judged."""
@@ -55,6 +58,10 @@ class Run:
                 self.links.append(Link(*parts.groups()))
             elif parts := VERDICT.fullmatch(line):
                 self.verdicts.append(Verdict(policy, *parts.groups()))
+            elif parts := TRAPPED.fullmatch(line):
+                self.blame = Link(parts[1], len(self.events), parts[2], parts["line"])
+            elif parts := UNBLAMED.fullmatch(line):
+                self.unblamed = parts.groups()
             elif line.startswith("stop "):
                 self.stop = line
 
@@ -69,24 +76,12 @@ def trace(path, text, run, words, policies):
     """Does a run, and judges it by each policy."""
     for policy in policies or [None]:
         given = policy.plain() if policy else b""
-        asked = ["judge" if policy else "explain", *words, *as_words(run.values)]
+        asked = ["judge" if policy else "explain", "--trapped", *words, *as_words(run.values)]
         out, said, status = secomp(asked, given + text)
         if status:
             raise Refused(refusal(path, said, status, given.count(b"\n")))
         run.take(out.decode("ascii", "replace").splitlines(), policy)
-    if run.stop.startswith("stop trap") and not run.links:
-        run.blame = blamed(text, run, words)
     return run
-
-
-def blamed(text, run, words):
-    """Where the source is blamed after the events of a run that trapped, as a link; none where it isn't."""
-    turns = [f"--turns={word.partition('=')[2]}" for word in words if word.startswith("--steps=")]
-    events = min(len(run.events) + 1, MOST_EVENTS)
-    out, _, _ = secomp(["meaning", f"--events={events}", *turns, *as_words(run.values)], text)
-    last = out.decode("ascii", "replace").rstrip("\n").rpartition("\n")[2]
-    parts = BLAME.fullmatch(last)
-    return Link(parts[1], len(run.events), parts[2], parts[3]) if parts else None
 
 
 def place(text, link):

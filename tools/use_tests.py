@@ -51,6 +51,11 @@ FILES = {
              "input();\n"
              "  while (a != 0) { a = input(); }\n  return 0;\n}\n",
     "many": "".join(f"{number}\n" for number in range(1, 70001)),
+    "after.c": "#pragma compartment Main\n#pragma import Env input\n#pragma import Net put\nint input(void);\n"
+               "int put(int at);\nint main(void) {\n  int *place, answer, at;\n  answer = put(4); at = input(); "
+               "if (at > 0) { answer = put(at); } place = 0;\n  *place = answer;\n  return 0;\n}\n#pragma compartment "
+               "Net\n#pragma export put\nint few[4], more[4];\nint put(int at) { few[at] = 9; return more[0]; }\n",
+    "far": "0\n100000000\n",
     "frame.c": "#pragma compartment Main\nint main(void) {\n  int a[9000];\n  a[0] = 1;\n  return 0;\n}\n",
 }
 
@@ -86,7 +91,10 @@ USES = [
     ("tools/check-runs", 2, ["required"]),
     ("tools/check-runs eat.c many2", 2, ["many2"]),
     (f"tools/check-runs {MESSAGES} lists | head -n 1", 0, ["line 2"]),
-    ("tools/check-runs examples/full.c empty_line", 1, ["the source is blamed for nothing: a stack is full"]),
+    ("tools/check-runs examples/full.c empty_line", 1, ["Sum is blamed for nothing: its stack is full"]),
+    ("tools/check-runs after.c far", 1,
+     ["after.c:9: line 1: the machine stops where Main is blamed, NullUse: *place = answer;",
+      "after.c:1: line 2: the machine stops in Net, after the events that the chain accounts for"]),
     ("tools/check-runs examples/endless.c empty_line", 1, ["the run doesn't end: raise --events"]),
     *((f"tools/check-runs $CASES/{it}.c $CASES/{it}.in --allow $CASES/{it}.found", 0, ["runs, 0 with findings\n"])
       for it in ("gate", "vm", "book")),
