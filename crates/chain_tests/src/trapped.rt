@@ -108,9 +108,10 @@ int put(int v) {
 }
 ";
 
+// The account of a run with at most these steps, and with at most these events and no more than `EVENTS`.
 fn explained(alloc: Global, text: &[u8], steps: u32, events: u32) -> Result<Explanation, Fail> {
     let source = SourceText::read(alloc, text)?;
-    let explanation = explain(alloc, &source, &[], steps, events)?;
+    let explanation = explain(alloc, &source, &[], steps, events.min(EVENTS))?;
     Ok(explanation)
 }
 
