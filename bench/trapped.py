@@ -3,9 +3,9 @@
 
 Each program of a seed has one to three compartments. They emit events, call one another and have faults: some go
 unnoticed by the machine, so that the chain replaces a section, and most programs have one after their last event that
-the machine traps at: a store through null, through a pointer without a value or far past an array, a recursion without
-end, or an overflow before one of these. In half of the programs a compartment gets random machine code, and the image
-stands before the text. Then, where the machine traps:
+the machine traps at: a store through null, through a pointer without a value, far past an array or past a block of the
+heap, a block that is freed twice, a recursion without end, or an overflow before one of these. In half of the programs
+a compartment gets random machine code, and the image stands before the text. Then, where the machine traps:
 
 - the number of steps up to the trap is found by `run` or `exec` with ever other limits;
 - the active compartment is found from the trace;
@@ -42,6 +42,8 @@ LOUD = {
     "overflow, then null": ["i = 2147483647;", "i = i + 1;", "p = 0;", "*p = i;"],
     "large frames, then null": ["i = sink(n, 60);"],
     "division, then far": ["i = n / (n - n);", "i = 300000000;", "a[i] = 1;"],
+    "past a block": ["q = malloc(4 * sizeof(int));", "i = n + 100000000;", "q[i] = n;"],
+    "freed twice": ["q = malloc(4 * sizeof(int));", "free(q);", "free(q);"],
 }
 # Faults that the machine passes over.
 QUIET = [["i = 5;", "a[i] = n;"], ["i = 2147483647;", "i = i + n;", "b[1] = i;"], ["i = n / (n - n);", "b[0] = i;"]]
